@@ -1,0 +1,4 @@
+pub mod Sums
+pub mod Counts
+pub mod Wholes
+pub mod Meanings

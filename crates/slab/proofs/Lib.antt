@@ -1,0 +1,4 @@
+pub mod Layouts
+pub mod Fitting
+pub mod Wholes
+pub mod Makings
