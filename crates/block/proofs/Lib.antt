@@ -1,4 +1,5 @@
 pub mod Sums
 pub mod Counts
 pub mod Wholes
+pub mod Answered
 pub mod Meanings

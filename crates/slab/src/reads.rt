@@ -1,11 +1,11 @@
-// Questions: they alter nothing.
+// Questions about blocks in memory that is only read.
 ghost use mathlib.Core.Path.{_≡_};
 ghost use mathlib.Core.Bool.{not};
 ghost use Prim.Native.Nat.{_<_};
 ghost use lib.Dec.{T};
 ghost use Rattle.block.specs.Blocks.{free-count, is-free};
 ghost use Rattle.block.specs.Calls.{get-answer, holders-answer};
-ghost use Rattle.slab.specs.Layout.{laid, room};
+ghost use Rattle.slab.specs.Layout.{laid, place-answer, room};
 use block::Refusal;
 
 // How many blocks the memory has room for: at most 16,384.
@@ -24,9 +24,9 @@ pub(crate) fn is_out(words: &[u32], cells: &[u16], b: u32) -> bool
     k < size(words, cells) && cells[k] > 0
 }
 
-// Word i of block b.
-pub fn get(words: &[u32], cells: &[u16], b: u32, i: u32) -> Result<u32, Refusal>
-    ensures { λ r. ⌜ r ≡ get-answer (laid (now (words .entry)) (now (cells .entry))) b i ⌝ }
+// Where word i of block b lies among the words.
+pub(crate) fn word_at(words: &[u32], cells: &[u16], b: u32, i: u32) -> Result<usize, Refusal>
+    ensures { λ r. ⌜ r ≡ place-answer (laid (now (words .entry)) (now (cells .entry))) b i ⌝ }
 {
     if !is_out(words, cells, b) {
         return Err(Refusal::NotOut);
@@ -34,7 +34,15 @@ pub fn get(words: &[u32], cells: &[u16], b: u32, i: u32) -> Result<u32, Refusal>
     if i > 15 {
         return Err(Refusal::NoWord);
     }
-    Ok(words[16 * b as usize + i as usize])
+    Ok(16 * b as usize + i as usize)
+}
+
+// Word i of block b.
+pub fn get(words: &[u32], cells: &[u16], b: u32, i: u32) -> Result<u32, Refusal>
+    ensures { λ r. ⌜ r ≡ get-answer (laid (now (words .entry)) (now (cells .entry))) b i ⌝ }
+{
+    let k = word_at(words, cells, b, i)?;
+    Ok(words[k])
 }
 
 // How many hold block b.
