@@ -11,6 +11,10 @@ pub sum-zero : (f : ℕ → ℕ) → sum-to 0 f ≡ 0
 unfolding sum-to
 sum-zero f = refl
 
+pub sum-suc : (n : ℕ) (f : ℕ → ℕ) → sum-to (suc n) f ≡ f n + sum-to n f
+unfolding sum-to
+sum-suc n f = refl
+
 pub sum-same : (n : ℕ) (f g : ℕ → ℕ) → ((j : ℕ) → j < n → f j ≡ g j) → sum-to n f ≡ sum-to n g
 unfolding sum-to
 sum-same zero f g h = refl
@@ -54,3 +58,9 @@ pub sum-ones : (n : ℕ) (f : ℕ → ℕ) → ((j : ℕ) → j < n → f j ≤ 
 unfolding sum-to
 sum-ones zero f h = omega arith
 sum-ones (suc n) f h = omega (arith, h n (omega arith), sum-ones n f (λ j l. h j (omega arith)))
+
+-- parts that are all 1
+pub sum-count : (n : ℕ) (f : ℕ → ℕ) → ((j : ℕ) → j < n → f j ≡ 1) → sum-to n f ≡ n
+unfolding sum-to
+sum-count zero f h = refl
+sum-count (suc n) f h = omega (arith, h n (omega arith), sum-count n f (λ j l. h j (omega arith)))

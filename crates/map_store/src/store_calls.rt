@@ -6,48 +6,53 @@ ghost use denote.Ref.{name, now};
 ghost use Rattle.std.specs.Results.{Cases};
 ghost use Rattle.block.specs.Blocks.{all-free};
 ghost use Rattle.block.specs.Calls.{Takes};
+ghost use Rattle.slab.specs.Held.{held, stands-on};
 ghost use Rattle.slab.specs.Layout.{past, room};
-ghost use Rattle.map_store.specs.Held.{held, stands-on};
 ghost use Rattle.slab.proofs.Wholes.{laid-whole};
+use crate::maps::lowest;
+use crate::maps::ones;
+use crate::maps::turn;
+use crate::store::MapStore;
 use block::BlockStore;
 use block::Refusal;
-use crate::maps::lowest;
-use crate::maps::turn;
-use crate::maps::ones;
-use crate::store::MapStore;
+use slab::Slab;
 
 impl<'a> MapStore<'a> {
-    // A store of as many blocks as the memory has room for, all of them free.
+    // A store of as many blocks as the memory has room for, all of them free: the least of a sixteenth of the words, the cells, and 16,384.
     pub fn new(words: &'a mut [u32], cells: &'a mut [u16]) -> MapStore<'a>
-        ensures free { λ r. ⌜ held r ≡ all-free (room (now (words .entry)) (now (cells .entry))) ⌝ }
-        ensures stays { λ r. ⌜ stands-on r ≡ past (name (words .entry) ∷ name (cells .entry) ∷ []) (now (words .entry)) (now (cells .entry)) ⌝ }
+        ensures after { λ r. ⌜ held (r .slab) ≡ all-free (room (now (words .entry)) (now (cells .entry))) ⌝ }
+        ensures stays { λ r. ⌜ stands-on (r .slab) ≡ past (name (words .entry) ∷ name (cells .entry) ∷ []) (now (words .entry)) (now (cells .entry)) ⌝ }
     {
-        slab::clear(words, cells);
+        let mut slab = Slab { words, cells };
+        slab.clear();
         let mut map = [u32::MAX; 512];
-        for b in 0..slab::size(words, cells) as u32 {
+        for b in 0..slab.size() as u32 {
             turn(&mut map, b);
         }
-        MapStore { words, cells, map, first: 0 }
+        MapStore {
+            slab,
+            map,
+            first: 0,
+        }
     }
 }
 
 pub impl<'a> BlockStore for MapStore<'a> as MapBlockStore {
-    ghost blocks = { held };
+    ghost blocks = { λ s. held (s .slab) };
 
-    ghost whole = { λ s. laid-whole (now (s .words)) (now (s .cells)) (s .fits) };
+    ghost whole = { λ s. laid-whole (now (s .slab .words)) (now (s .slab .cells)) (s .fits) };
 
-    ghost frame = { stands-on };
+    ghost frame = { λ s. stands-on (s .slab) };
 
     // Takes the lowest free number.
     fn take(&mut self) -> Result<u32, Refusal>
-        ensures after { λ r. ⌜ Takes (held (now (self .entry))) r (held (now (self .exit))) ⌝ }
-        ensures stays { λ _. ⌜ stands-on (now (self .exit)) ≡ stands-on (now (self .entry)) ⌝ }
-        ensures lowest { λ r. ⌜ Cases r (λ b. (k : ℕ) → k < b → 0 < held (now (self .entry)) .holders k) (λ _. Unit {0}) ⌝ }
+        ensures after { λ r. ⌜ Takes (held (now (self .entry) .slab)) r (held (now (self .exit) .slab)) ⌝ }
+        ensures stays { λ _. ⌜ stands-on (now (self .exit) .slab) ≡ stands-on (now (self .entry) .slab) ⌝ }
+        ensures lowest { λ r. ⌜ Cases r (λ b. (k : ℕ) → k < b → 0 < held (now (self .entry) .slab) .holders k) (λ _. Unit {0}) ⌝ }
     {
         match lowest(&self.map, self.first) {
             Some(b) => {
-                slab::wipe(self.words, b);
-                self.cells[b as usize] = 1;
+                self.slab.claim(b);
                 turn(&mut self.map, b);
                 self.first = b as usize / 32;
                 Ok(b)
@@ -57,15 +62,11 @@ pub impl<'a> BlockStore for MapStore<'a> as MapBlockStore {
     }
 
     fn keep(&mut self, b: u32) -> Result<(), Refusal> {
-        let held = slab::more_holders(self.words, self.cells, b)?;
-        self.cells[b as usize] = held;
-        Ok(())
+        self.slab.keep(b)
     }
 
     fn release(&mut self, b: u32) -> Result<(), Refusal> {
-        let held = slab::fewer_holders(self.words, self.cells, b)?;
-        self.cells[b as usize] = held;
-        if held == 0 {
+        if self.slab.release(b)? {
             turn(&mut self.map, b);
             self.first = self.first.min(b as usize / 32);
         }
@@ -73,24 +74,23 @@ pub impl<'a> BlockStore for MapStore<'a> as MapBlockStore {
     }
 
     fn get(&self, b: u32, i: u32) -> Result<u32, Refusal> {
-        slab::get(self.words, self.cells, b, i)
+        self.slab.get(b, i)
     }
 
     fn put(&mut self, b: u32, i: u32, w: u32) -> Result<(), Refusal> {
-        let k = slab::word_at(self.words, self.cells, b, i)?;
-        self.words[k] = w;
-        Ok(())
+        self.slab.put(b, i, w)
     }
 
     fn holders(&self, b: u32) -> Result<u16, Refusal> {
-        slab::holders(self.words, self.cells, b)
+        self.slab.holders(b)
     }
 
+    // The numbers that the map marks as gone, less those that there are not, are out; the others are left.
     fn left(&self) -> u32 {
         16384 - ones(&self.map)
     }
 
     fn size(&self) -> u32 {
-        slab::size(self.words, self.cells) as u32
+        self.slab.size() as u32
     }
 }

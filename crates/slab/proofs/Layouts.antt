@@ -119,21 +119,22 @@ module _ (ws hs : List ℕ) (b : ℕ) (l : b < room ws hs) where
     where
       held : (c : ℕ) → held-in (room ws hs) hs′ c ≡ cond (eqb c b) 1 (held-in (room ws hs) hs c)
       held c = elim (ℕ-discrete c b) [
-          yes y ↦ let x = ap (λ (v : ℕ). getD hs′ v 0) y ∙ t .held l in grind (arith, tells)
+        | yes y ↦ let x = ap (λ (v : ℕ). getD hs′ v 0) y ∙ t .held l in grind (arith, tells)
         | no d ↦ let x = t .others-held c d in grind (arith, tells)
-        ]
+      ]
+
       word : (c j : ℕ) → word-in (room ws hs) ws′ hs′ c j ≡ cond (eqb c b) 0 (word-in (room ws hs) ws hs c j)
       word c j = let h = held c in elim (decLt j 16) [
-          no q ↦ grind (arith, tells)
+        | no q ↦ grind (arith, tells)
         | yes q ↦ elim (ℕ-discrete c b) [
-              yes y ↦ let x = ap (λ (v : ℕ). getD ws′ (16 * v + j) 0) y ∙ t .zeros l j q in grind (arith, tells)
-            | no d ↦ let u = t .others-words c j d q in grind (arith, tells)
-            ]
+          | yes y ↦ let x = ap (λ (v : ℕ). getD ws′ (16 * v + j) 0) y ∙ t .zeros l j q in grind (arith, tells)
+          | no d ↦ let u = t .others-words c j d q in grind (arith, tells)
         ]
+      ]
 
 -- a block that has holders is one of the blocks, and its cell counts them
 pub cell-held : (ws hs : List ℕ) (b : ℕ) → 0 < laid ws hs .holders b → (b < room ws hs) × (laid ws hs .holders b ≡ getD hs b 0)
 cell-held ws hs b l = elim (cases-lt b (room ws hs)) [
-    inl h ↦ (h, grind (arith, tells))
+  | inl h ↦ (h, grind (arith, tells))
   | inr h ↦ absurd (let z : held-in (room ws hs) hs b ≡ 0 = grind (arith, tells) in omega arith)
-  ]
+]

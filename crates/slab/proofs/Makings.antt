@@ -46,9 +46,9 @@ module _ (ws hs ys : List ℕ) (b : ℕ) (l : b < room ws hs) (e : ys ≡ replic
     zeros = λ _. zeroed-in;
     others-held = λ c d. getD-set-other hs b c 1 0 d;
     others-words = λ c i d k. elim (cases-lt c b) [
-        inl h ↦ zeroed-before (16 * c + i) (omega arith)
+      | inl h ↦ zeroed-before (16 * c + i) (omega arith)
       | inr h ↦ zeroed-after (16 * c + i) (omega (arith, d))
-      ];
+    ];
   }
 
   pub claimed-past : (ns : List GName) → past ns zeroed (set hs b 1) ≡ past ns ws hs

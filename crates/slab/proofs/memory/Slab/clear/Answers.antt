@@ -17,8 +17,7 @@ loop-k-again c =
     let v = c .loop-k .inv in
     let hs = c .loop-k .self .cells .now in
     let k = c .loop-k .k in
-    let s = c .args .self .now in
-    (
+    let s = c .args .self .now in (
       length-set hs k 0 ∙ v .0,
       below-more _ _ (λ j l. let d : j ≢ k = omega arith in getD-set-other hs k j 0 0 d ∙ v .1 j l) (getD-set-same hs k 0 0 (omega arith)),
       drop-set-lt (room (s .words .now) (s .cells .now)) hs k 0 (omega arith) ∙ v .2,
@@ -39,9 +38,9 @@ returns c =
     record {
       after = ap (λ (x : List ℕ). laid x hs′) same ∙ laid-free ws hs hs′ (v .0) zeros;
       stays =
-        ap₂ (λ (x y : GName). past (x ∷ y ∷ []) (c .loop-k .self .words .now) hs′) (v .4) (v .5)
-        ∙ ap (λ (x : List ℕ). past names x hs′) same
-        ∙ past-same names ws ws hs hs′ refl (v .0) refl (v .2);
+          ap₂ (λ (x y : GName). past (x ∷ y ∷ []) (c .loop-k .self .words .now) hs′) (v .4) (v .5)
+          ∙ ap (λ (x : List ℕ). past names x hs′) same
+          ∙ past-same names ws ws hs hs′ refl (v .0) refl (v .2);
       fits = subst (λ (x : List ℕ). Fits (laid x hs′)) (sym same) (free-fits ws hs hs′ (v .0) zeros);
       words = same;
       cells = record { long = v .0; zeros = zeros; others = v .2 };
