@@ -7,9 +7,9 @@ use native.Mathlib.Omega.{arith}
 use native.Mathlib.Decide.{ℕ-discrete}
 use lib.Dec.{eqb}
 use Rattle.std.proofs.shelf.Ways.{tells}
-use Rattle.block.specs.Blocks.{Blocks, sum-to, spare, free-count}
+use Rattle.block.specs.Blocks.{Blocks, all-free, sum-to, spare, free-count}
 use Rattle.block.specs.Calls.{written, kept, released, taken}
-use Rattle.block.proofs.Sums.{sum-same, sum-at, sum-none, at-most-sum, sum-ones}
+use Rattle.block.proofs.Sums.{sum-same, sum-at, sum-none, sum-count, at-most-sum, sum-ones}
 
 spare-free : (h : ℕ) → h ≡ 0 → spare h ≡ 1
 spare-free h e = grind (arith, tells)
@@ -72,6 +72,10 @@ none-left m e b l =
 pub all-out : (m : Blocks) → ((b : ℕ) → b < m .size → 0 < m .holders b) → free-count m ≡ 0
 unfolding free-count
 all-out m h = sum-none (m .size) _ (λ b l. spare-held (m .holders b) (h b l))
+
+pub count-all-free : (n : ℕ) → free-count (all-free n) ≡ n
+unfolding free-count
+count-all-free n = sum-count n (λ b. spare 0) (λ b _. refl)
 
 -- no more are free than there are
 pub count-most : (m : Blocks) → free-count m ≤ m .size

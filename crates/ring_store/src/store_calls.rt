@@ -20,7 +20,11 @@ impl RingStore {
         ensures after { λ r. ⌜ held r ≡ all-free 128 ⌝ }
         ensures last { λ r. ⌜ r .last ≡ 127 ⌝ }
     {
-        RingStore { words: [0; 2048], cells: [0; 128], last: 127 }
+        RingStore {
+            words: [0; 2048],
+            cells: [0; 128],
+            last: 127,
+        }
     }
 
     // The first free number above the one that was taken last, going round.
@@ -53,7 +57,10 @@ pub impl BlockStore for RingStore as RingBlockStore {
     {
         match self.next() {
             Some(b) => {
-                let mut slab = Slab { words: &mut self.words, cells: &mut self.cells };
+                let mut slab = Slab {
+                    words: &mut self.words,
+                    cells: &mut self.cells,
+                };
                 slab.claim(b);
                 self.last = b;
                 Ok(b)
@@ -68,7 +75,10 @@ pub impl BlockStore for RingStore as RingBlockStore {
         ensures stays { λ _. ⌜ stands-on (now (self .exit)) ≡ stands-on (now (self .entry)) ⌝ }
         ensures last { λ _. ⌜ now (self .exit) .last ≡ now (self .entry) .last ⌝ }
     {
-        let mut slab = Slab { words: &mut self.words, cells: &mut self.cells };
+        let mut slab = Slab {
+            words: &mut self.words,
+            cells: &mut self.cells,
+        };
         slab.keep(b)
     }
 
@@ -78,7 +88,10 @@ pub impl BlockStore for RingStore as RingBlockStore {
         ensures stays { λ _. ⌜ stands-on (now (self .exit)) ≡ stands-on (now (self .entry)) ⌝ }
         ensures last { λ _. ⌜ now (self .exit) .last ≡ now (self .entry) .last ⌝ }
     {
-        let mut slab = Slab { words: &mut self.words, cells: &mut self.cells };
+        let mut slab = Slab {
+            words: &mut self.words,
+            cells: &mut self.cells,
+        };
         slab.release(b)?;
         Ok(())
     }
@@ -93,7 +106,10 @@ pub impl BlockStore for RingStore as RingBlockStore {
         ensures stays { λ _. ⌜ stands-on (now (self .exit)) ≡ stands-on (now (self .entry)) ⌝ }
         ensures last { λ _. ⌜ now (self .exit) .last ≡ now (self .entry) .last ⌝ }
     {
-        let mut slab = Slab { words: &mut self.words, cells: &mut self.cells };
+        let mut slab = Slab {
+            words: &mut self.words,
+            cells: &mut self.cells,
+        };
         slab.put(b, i, w)
     }
 

@@ -132,6 +132,21 @@ module _ (ws hs : List ℕ) (b : ℕ) (l : b < room ws hs) where
         ]
       ]
 
+-- a word of a block that is free does not show
+pub after-link : (ws hs : List ℕ) (b w : ℕ) → laid ws hs .holders b ≡ 0 → laid (set ws (16 * b) w) hs ≡ laid ws hs
+after-link ws hs b w e =
+    ap (λ (n : ℕ). laid-in n (set ws (16 * b) w) hs) (room-same ws (set ws (16 * b) w) hs hs (length-set ws (16 * b) w) refl)
+    ∙ same-blocks (laid ws hs) (laid-in (room ws hs) (set ws (16 * b) w) hs) refl (λ c. refl) word
+  where
+    word : (c j : ℕ) → word-in (room ws hs) (set ws (16 * b) w) hs c j ≡ word-in (room ws hs) ws hs c j
+    word c j = elim (decLt j 16) [
+      | no q ↦ grind (arith, tells)
+      | yes q ↦ elim (ℕ-discrete c b) [
+        | yes y ↦ let x = ap (held-in (room ws hs) hs) y in grind (arith, tells)
+        | no d ↦ let x = getD-set-other ws (16 * b) (16 * c + j) w 0 (λ f. d (omega arith)) in grind (arith, tells)
+      ]
+    ]
+
 -- a block that has holders is one of the blocks, and its cell counts them
 pub cell-held : (ws hs : List ℕ) (b : ℕ) → 0 < laid ws hs .holders b → (b < room ws hs) × (laid ws hs .holders b ≡ getD hs b 0)
 cell-held ws hs b l = elim (cases-lt b (room ws hs)) [

@@ -84,4 +84,17 @@ impl Slab<'_> {
             self.cells[k] = 0;
         }
     }
+
+    // Writes a number into the first word of block b, where nobody sees it while the block is free.
+    pub fn link(&mut self, b: u32, next: u32)
+        ensures after { λ _. ⌜ (held (now (self .entry)) .holders b ≡ 0 → held (now (self .exit)) ≡ held (now (self .entry))) ⌝ }
+        ensures stays { λ _. ⌜ stands-on (now (self .exit)) ≡ stands-on (now (self .entry)) ⌝ }
+        ensures words { λ _. ⌜ now (now (self .exit) .words) ≡ cond (ltb b (held (now (self .entry)) .size)) (set (now (now (self .entry) .words)) (16 * b) next) (now (now (self .entry) .words)) ⌝ }
+        ensures cells { λ _. ⌜ now (now (self .exit) .cells) ≡ now (now (self .entry) .cells) ⌝ }
+    {
+        let k = b as usize;
+        if k < self.size() {
+            self.words[16 * k] = next;
+        }
+    }
 }

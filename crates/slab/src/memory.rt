@@ -1,5 +1,9 @@
 // The memory of a store, lent for as long as the store works on it.
+ghost use mathlib.Core.Bool.{cond};
 ghost use mathlib.Core.Path.{_≡_};
+ghost use Prim.Native.Nat.{_*_};
+ghost use lib.Dec.{ltb};
+ghost use lib.ListN.{getD};
 ghost use Rattle.block.specs.Blocks.{free-count};
 ghost use Rattle.block.specs.Calls.{get-answer, holders-answer};
 ghost use Rattle.slab.specs.Held.{held};
@@ -49,5 +53,17 @@ impl Slab<'_> {
         ensures { λ r. ⌜ r ≡ free-count (held (now (self .entry))) ⌝ }
     {
         reads::left(self.words, self.cells)
+    }
+
+    // The number that stands in the first word of block b: 0 where there is no such block.
+    pub fn linked(&self, b: u32) -> u32
+        ensures { λ r. ⌜ r ≡ cond (ltb b (held (now (self .entry)) .size)) (getD (now (now (self .entry) .words)) (16 * b) 0) 0 ⌝ }
+    {
+        let k = b as usize;
+        if k < self.size() {
+            self.words[16 * k]
+        } else {
+            0
+        }
     }
 }

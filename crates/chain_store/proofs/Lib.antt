@@ -1,0 +1,4 @@
+mod Links
+mod Threading
+mod Stores
+mod Makings
