@@ -7,5 +7,8 @@ mod stores;
 pub use laws::meaning_stands;
 pub use lent::LentBlockStore;
 pub use refusals::Refusal;
+pub use refusals::RefusalDebug;
 pub use refusals::RefusalDisplay;
+pub use refusals::RefusalEq;
+pub use refusals::RefusalPartialEq;
 pub use stores::BlockStore;
