@@ -1,4 +1,1 @@
-mod Links
-mod Threading
 mod Stores
-mod Makings

@@ -19,15 +19,15 @@ use Rattle.block.specs.Calls.{refused-if, keep-answer, put-answer, kept, releas
 use Rattle.block.proofs.Answered.{accepted, free-false}
 use Rattle.block.proofs.Wholes.{out-below}
 use Rattle.slab.specs.Held as slabs
-use Rattle.slab.specs.Layout.{Claimed}
+use Rattle.layout.specs.Layout.{Claimed}
 use Rattle.slab.specs.declared.memory.Slab.{Slab}
-use Rattle.slab.proofs.Layouts.{room-words}
-use Rattle.slab.proofs.Wholes.{laid-whole}
-use Rattle.chain_store.specs.Chain.{chain, Inside, Unheld, Apart, Threads}
+use Rattle.layout.proofs.Layouts.{room-words}
+use Rattle.layout.proofs.Wholes.{laid-whole}
+use Rattle.links.specs.Chain.{chain, Inside, Unheld, Apart, Threads}
 use Rattle.chain_store.specs.Order.{held, order}
 use Rattle.chain_store.specs.declared.store.ChainStore.{ChainStore}
-use Rattle.chain_store.proofs.Links.{length-chain, chain-more, chain-first, chain-set, chain-claimed}
-use Rattle.chain_store.proofs.Threading.{not-listed, listed-kept, listed-written, listed-freed, listed-taken}
+use Rattle.links.proofs.Links.{length-chain, chain-more, chain-first, chain-set, chain-claimed}
+use Rattle.links.proofs.Threading.{not-listed, listed-kept, listed-written, listed-freed, listed-taken}
 
 -- what always holds of a store, put together
 pub threads-of : (s : ChainStore) → Threads (order s) (held s)

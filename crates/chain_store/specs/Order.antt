@@ -7,7 +7,7 @@ use mathlib.Core.List.{List}
 use Prim.Native.Nat.{ℕ}
 use Rattle.block.specs.Blocks.{Blocks, Frame}
 use Rattle.slab.specs.Held as slabs
-use Rattle.chain_store.specs.Chain.{chain}
+use Rattle.links.specs.Chain.{chain}
 use Rattle.chain_store.specs.declared.store.ChainStore.{ChainStore}
 
 abbrev pub held : ChainStore → Blocks

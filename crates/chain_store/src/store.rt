@@ -2,8 +2,8 @@
 ghost use mathlib.Core.Path.{_≡_};
 ghost use Rattle.block.specs.Blocks.{free-count};
 ghost use Rattle.slab.specs.Held.{held};
-ghost use Rattle.slab.specs.Layout.{Fits};
-ghost use Rattle.chain_store.specs.Chain.{Apart, Inside, Unheld, chain};
+ghost use Rattle.layout.specs.Layout.{Fits};
+ghost use Rattle.links.specs.Chain.{Apart, Inside, Unheld, chain};
 use slab::Slab;
 
 #[derive(Drop)]

@@ -5,7 +5,7 @@ ghost use lib.Bits.{bitXor};
 ghost use lib.ListN.{length};
 ghost use Rattle.std.specs.Options.{Cases as BySome};
 ghost use Rattle.block.specs.Blocks.{sum-to};
-ghost use Rattle.map_store.specs.Map.{mark};
+ghost use Rattle.marks.specs.Map.{mark};
 
 // Turns the bit of number b; a number past the map has none.
 pub(crate) fn turn(map: &mut [u32; 512], b: u32)

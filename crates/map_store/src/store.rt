@@ -3,8 +3,8 @@ ghost use mathlib.Core.Path.{_≡_};
 ghost use Prim.Native.Nat.{ℕ, _*_, _<_};
 ghost use lib.ListN.{length};
 ghost use Rattle.slab.specs.Held.{held};
-ghost use Rattle.slab.specs.Layout.{Fits};
-ghost use Rattle.map_store.specs.Map.{Marks, mark};
+ghost use Rattle.layout.specs.Layout.{Fits};
+ghost use Rattle.marks.specs.Map.{Marks, mark};
 use slab::Slab;
 
 #[derive(Drop)]

@@ -1,8 +1,6 @@
 // The calls that the rig plays, and what a store answers to one.
 use block::Refusal;
 use block::RefusalDisplay;
-use block::RefusalEq;
-use block::RefusalPartialEq;
 use std::fmt;
 
 // A block: that of an earlier take, counted from 0, or a bare number.
@@ -28,7 +26,14 @@ pub enum Call {
     Holders(Block),
 }
 
-#[derive(Clone, Copy, PartialEq, Eq)]
+// A call as it is printed, and as it is played.
+#[derive(Clone, Copy)]
+pub struct Step {
+    pub text: &'static str,
+    pub call: Call,
+}
+
+#[derive(Clone, Copy)]
 pub enum Answer {
     Done,
     Number(u32),
@@ -39,31 +44,16 @@ pub enum Answer {
     Stopped(u32, Refusal),
 }
 
-pub impl fmt::Display for Block as BlockDisplay {
-    fn fmt<W: fmt::Write>(&self, f: &mut fmt::Formatter<W>) -> fmt::Result {
-        match *self {
-            Block::Taken(nth) => {
-                let letter = char::from(b'a' + (nth % 26) as u8);
-                write!(f, "{letter}")
-            }
-            Block::Numbered(b) => write!(f, "number {b}"),
-        }
-    }
-}
-
-pub impl fmt::Display for Call as CallDisplay {
-    fn fmt<W: fmt::Write>(&self, f: &mut fmt::Formatter<W>) -> fmt::Result {
-        match *self {
-            Call::Size => write!(f, "size"),
-            Call::Left => write!(f, "left"),
-            Call::Take => write!(f, "take"),
-            Call::TakeRest => write!(f, "take until refused"),
-            Call::Keep(b) => write!(f, "keep {b}"),
-            Call::KeepOften(b, times) => write!(f, "keep {b} {times} times"),
-            Call::Release(b) => write!(f, "release {b}"),
-            Call::Get(b, i) => write!(f, "get {b} word {i}"),
-            Call::Put(b, i, w) => write!(f, "put {b} word {i}: {w}"),
-            Call::Holders(b) => write!(f, "holders {b}"),
+impl Answer {
+    // Whether two answers are the same, up to the number that `take` picks.
+    pub fn is_like(self, other: Answer) -> bool {
+        match (self, other) {
+            (Answer::Done, Answer::Done) => true,
+            (Answer::Number(m), Answer::Number(n)) => m == n,
+            (Answer::Picked(_), Answer::Picked(_)) => true,
+            (Answer::Refused(d), Answer::Refused(e)) => d.number() == e.number(),
+            (Answer::Stopped(m, d), Answer::Stopped(n, e)) => m == n && d.number() == e.number(),
+            _ => false,
         }
     }
 }

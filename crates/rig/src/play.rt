@@ -4,27 +4,27 @@ ghost use lib.ListN.{length};
 ghost use Rattle.std.specs.Of.Vec.{vec-len};
 ghost use Rattle.std.specs.Vec.{made};
 use crate::calls::Answer;
-use crate::calls::AnswerPartialEq;
 use crate::calls::Block;
 use crate::calls::Call;
+use crate::calls::Step;
 use block::BlockStore;
 use block::LentBlockStore;
 use block::Refusal;
 use std::alloc::AllocError;
 use std::alloc::Global;
 
-// Plays the calls in their order on any store: an answer to each.
+// Plays the steps in their order on any store: an answer to each.
 pub fn play<S: BlockStore>(
     heap: Global,
     store: &mut S,
-    calls: &[Call],
+    steps: &[Step],
 ) -> Result<Vec<Answer>, AllocError>
-    ensures { λ r. ⌜ made r (λ v. vec-len v ≡ length (now (calls .entry))) ⌝ }
+    ensures { λ r. ⌜ made r (λ v. vec-len v ≡ length (now (steps .entry))) ⌝ }
 {
     let mut picks = Vec::new(heap);
     let mut answers = Vec::new(heap);
-    for call in calls {
-        let answer = ask(store, &picks, *call);
+    for step in steps {
+        let answer = ask(store, &picks, step.call);
         if let Answer::Picked(b) = answer {
             picks.push(b)?;
         }
@@ -93,12 +93,4 @@ fn keep_often<S: BlockStore>(store: &mut S, b: u32, times: u32) -> Answer {
         }
     }
     Answer::Number(times)
-}
-
-// Whether two answers are the same, up to the number that `take` picks.
-pub fn alike(a: Answer, b: Answer) -> bool {
-    match (a, b) {
-        (Answer::Picked(_), Answer::Picked(_)) => true,
-        _ => a == b,
-    }
 }

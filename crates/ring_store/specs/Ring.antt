@@ -6,7 +6,7 @@
 use Prim.Native.Nat.{ℕ, _+_, _-_, _%_}
 use mathlib.Core.List.{[]}
 use Rattle.block.specs.Blocks.{Blocks, Frame}
-use Rattle.slab.specs.Layout.{laid}
+use Rattle.layout.specs.Layout.{laid}
 use Rattle.ring_store.specs.declared.store.RingStore.{RingStore}
 
 abbrev pub held : RingStore → Blocks

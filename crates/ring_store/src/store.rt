@@ -2,7 +2,7 @@
 ghost use mathlib.Core.Path.{_≡_};
 ghost use Prim.Native.Nat.{_<_};
 ghost use lib.ListN.{length};
-ghost use Rattle.slab.specs.Layout.{Fits, laid};
+ghost use Rattle.layout.specs.Layout.{Fits, laid};
 
 #[derive(Drop)]
 pub struct RingStore {

@@ -7,7 +7,7 @@ ghost use Rattle.std.specs.Options.{Cases as BySome};
 ghost use Rattle.std.specs.Results.{Cases, isOk};
 ghost use Rattle.block.specs.Blocks.{all-free};
 ghost use Rattle.block.specs.Calls.{Takes, keep-answer, kept, put-answer, release-answer, released, written};
-ghost use Rattle.slab.proofs.Wholes.{laid-whole};
+ghost use Rattle.layout.proofs.Wholes.{laid-whole};
 ghost use Rattle.ring_store.specs.Ring.{ahead, held, stands-on};
 use crate::store::RingStore;
 use block::BlockStore;

@@ -4,7 +4,7 @@
 --   stands-on s   its references, and the cells past its blocks
 use mathlib.Core.List.{[], _∷_}
 use Rattle.block.specs.Blocks.{Blocks, Frame}
-use Rattle.slab.specs.Layout.{laid, past}
+use Rattle.layout.specs.Layout.{laid, past}
 use Rattle.slab.specs.declared.memory.Slab.{Slab}
 
 abbrev pub held : Slab → Blocks

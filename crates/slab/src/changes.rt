@@ -7,7 +7,7 @@ ghost use lib.ListN.{getD, set};
 ghost use Rattle.std.specs.Results.{isOk};
 ghost use Rattle.block.specs.Blocks.{all-free};
 ghost use Rattle.block.specs.Calls.{keep-answer, kept, put-answer, released, taken, written};
-ghost use Rattle.slab.specs.Layout.{Claimed, Cleared, Fits, release-tells};
+ghost use Rattle.layout.specs.Layout.{Claimed, Cleared, Fits, release-tells};
 ghost use Rattle.slab.specs.Held.{held, stands-on};
 use crate::memory::Slab;
 use block::Refusal;

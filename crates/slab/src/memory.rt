@@ -7,7 +7,7 @@ ghost use lib.ListN.{getD};
 ghost use Rattle.block.specs.Blocks.{free-count};
 ghost use Rattle.block.specs.Calls.{get-answer, holders-answer};
 ghost use Rattle.slab.specs.Held.{held};
-ghost use Rattle.slab.specs.Layout.{place-answer};
+ghost use Rattle.layout.specs.Layout.{place-answer};
 use crate::reads;
 use block::Refusal;
 

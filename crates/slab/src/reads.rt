@@ -5,7 +5,7 @@ ghost use Prim.Native.Nat.{_<_};
 ghost use lib.Dec.{T};
 ghost use Rattle.block.specs.Blocks.{free-count, is-free};
 ghost use Rattle.block.specs.Calls.{get-answer, holders-answer};
-ghost use Rattle.slab.specs.Layout.{laid, place-answer, room};
+ghost use Rattle.layout.specs.Layout.{laid, place-answer, room};
 use block::Refusal;
 
 // How many blocks the memory has room for: at most 16,384.

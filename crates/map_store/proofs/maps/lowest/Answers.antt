@@ -5,9 +5,9 @@ use native.Mathlib.Omega.{arith}
 use lib.ListN.{getD}
 use lib.Count.{trailingZeros}
 use Rattle.std.proofs.shelf.Tests.{cases-lt}
-use Rattle.map_store.specs.Map.{bit, mark}
-use Rattle.map_store.proofs.Digits.{lowest-zero}
-use Rattle.map_store.proofs.Marked.{word-full}
+use Rattle.marks.specs.Map.{bit, mark}
+use Rattle.marks.proofs.Digits.{lowest-zero}
+use Rattle.marks.proofs.Marked.{word-full}
 use Rattle.map_store.proofs.maps.lowest.Needs as need
 
 pub loop-w-again : need.loop-w-again

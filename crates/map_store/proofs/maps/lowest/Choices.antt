@@ -1,6 +1,6 @@
 use Prim.Native.Nat.{ℕ, _*_, _<_, _≤_}
 use mathlib.Core.Path.{_≡_}
-use Rattle.map_store.specs.Map.{mark}
+use Rattle.marks.specs.Map.{mark}
 use Rattle.map_store.proofs.maps.lowest.Given as given
 
 abbrev pub Inv-loop-w : given.InvT-loop-w

@@ -5,8 +5,8 @@ use lib.ListN.{getD}
 use Rattle.std.proofs.shelf.Bits.{ones-le}
 use Rattle.block.specs.Blocks.{sum-to}
 use Rattle.block.proofs.Sums.{sum-zero}
-use Rattle.map_store.specs.Map.{mark}
-use Rattle.map_store.proofs.Marked.{ones-more}
+use Rattle.marks.specs.Map.{mark}
+use Rattle.marks.proofs.Marked.{ones-more}
 use Rattle.map_store.proofs.maps.ones.Needs as need
 
 pub loop-w-holds : need.loop-w-holds

@@ -1,7 +1,7 @@
 use Prim.Native.Nat.{ℕ, _*_, _≤_}
 use mathlib.Core.Path.{_≡_}
 use Rattle.block.specs.Blocks.{sum-to}
-use Rattle.map_store.specs.Map.{mark}
+use Rattle.marks.specs.Map.{mark}
 use Rattle.map_store.proofs.maps.ones.Given as given
 
 abbrev pub Inv-loop-w : given.InvT-loop-w

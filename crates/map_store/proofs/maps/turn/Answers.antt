@@ -5,8 +5,8 @@ use lib.ListN.{length, getD, set}
 use lib.Bits.{bitXor}
 use Rattle.std.proofs.shelf.Bits.{one-shl}
 use Rattle.std.proofs.shelf.Lists.{length-set}
-use Rattle.map_store.specs.Map.{mark}
-use Rattle.map_store.proofs.Marked.{mark-turned, mark-other}
+use Rattle.marks.specs.Map.{mark}
+use Rattle.marks.proofs.Marked.{mark-turned, mark-other}
 use Rattle.map_store.proofs.maps.turn.Needs as need
 
 pub returns-then-at-lt512 : need.returns-then-at-lt512

@@ -5,7 +5,7 @@ use lib.ListN.{getD}
 use Rattle.std.proofs.shelf.Ways.{tells}
 use Rattle.block.specs.Blocks.{spare, sum-to, free-count}
 use Rattle.block.proofs.Sums.{sum-zero, sum-more, sum-same}
-use Rattle.slab.specs.Layout.{room, held-in}
+use Rattle.layout.specs.Layout.{room, held-in}
 use Rattle.slab.proofs.reads.left.Needs as need
 use Rattle.slab.proofs.reads.left.Needs.{then-cells-k-eq0, else-cells-k-eq0}
 

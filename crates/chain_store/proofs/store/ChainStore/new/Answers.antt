@@ -7,10 +7,10 @@ use borrow.Author.Count.{below-more}
 use lib.ListN.{length, getD, drop}
 use Rattle.std.proofs.shelf.Lists.{getD-set-same, getD-set-other, length-set, drop-set-lt}
 use Rattle.block.specs.Blocks.{Frame}
-use Rattle.slab.specs.Layout.{room, past}
-use Rattle.slab.proofs.Layouts.{room-words}
-use Rattle.chain_store.proofs.Links.{length-chain}
-use Rattle.chain_store.proofs.Makings.{made}
+use Rattle.layout.specs.Layout.{room, past}
+use Rattle.layout.proofs.Layouts.{room-words}
+use Rattle.links.proofs.Links.{length-chain}
+use Rattle.links.proofs.Makings.{made}
 use Rattle.chain_store.proofs.store.ChainStore.new.Needs as need
 
 pub index-slab-k : need.index-slab-k

@@ -7,12 +7,12 @@ use Rattle.std.proofs.shelf.Tests.{eq-eqb, ne-eqb, cond-true, cond-false}
 use Rattle.block.proofs.Answered.{release-ok}
 use Rattle.block.proofs.Counts.{count-most}
 use Rattle.slab.specs.Held as slabs
-use Rattle.slab.specs.Layout.{Fits}
-use Rattle.slab.proofs.Places.{freed, not-freed}
-use Rattle.chain_store.specs.Chain.{chain, Threads}
+use Rattle.layout.specs.Layout.{Fits}
+use Rattle.layout.proofs.Places.{freed, not-freed}
+use Rattle.links.specs.Chain.{chain, Threads}
 use Rattle.chain_store.specs.Order.{held, order}
-use Rattle.chain_store.proofs.Links.{length-chain}
-use Rattle.chain_store.proofs.Threading.{listed-released}
+use Rattle.links.proofs.Links.{length-chain}
+use Rattle.links.proofs.Threading.{listed-released}
 use Rattle.chain_store.proofs.Stores.{threads-of, Freed, freed-store}
 use Rattle.chain_store.proofs.store_calls.ChainBlockStore.release.Needs as need
 

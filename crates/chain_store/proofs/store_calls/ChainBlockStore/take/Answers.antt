@@ -3,9 +3,9 @@ use mathlib.Core.List.{List, [], _∷_}
 use Prim.Native.Nat.{ℕ, _+_, _-_, _<_, _≤_}
 use native.Mathlib.Omega.{arith}
 use Rattle.block.proofs.Counts.{none-left}
-use Rattle.chain_store.specs.Chain.{Threads}
+use Rattle.links.specs.Chain.{Threads}
 use Rattle.chain_store.specs.Order.{held}
-use Rattle.chain_store.proofs.Links.{length-chain}
+use Rattle.links.proofs.Links.{length-chain}
 use Rattle.chain_store.proofs.Stores.{popped-store}
 use Rattle.chain_store.proofs.store_calls.ChainBlockStore.take.Needs as need
 

@@ -10,9 +10,9 @@ use Rattle.std.proofs.shelf.Lists.{getD-replicate}
 use borrow.Author.Count.{below-more}
 use Rattle.block.specs.Blocks.{Blocks}
 use Rattle.slab.specs.Held.{held}
-use Rattle.slab.specs.Layout.{room}
-use Rattle.map_store.specs.Map.{mark}
-use Rattle.map_store.proofs.Marked.{fresh-marks, word-full}
+use Rattle.layout.specs.Layout.{room}
+use Rattle.marks.specs.Map.{mark}
+use Rattle.marks.proofs.Marked.{fresh-marks, word-full}
 use Rattle.map_store.proofs.store.MapStore.new.Needs as need
 
 pub loop-b-holds : need.loop-b-holds

@@ -1,7 +1,7 @@
 use Prim.Native.Nat.{ℕ, _<_, _≤_}
 use mathlib.Core.Path.{_≡_}
 use lib.ListN.{length}
-use Rattle.map_store.specs.Map.{mark}
+use Rattle.marks.specs.Map.{mark}
 use Rattle.map_store.proofs.store.MapStore.new.Given as given
 
 abbrev pub Inv-loop-b : given.InvT-loop-b

@@ -1,7 +1,7 @@
 use mathlib.Core.Path.{_≡_}
 use native.Mathlib.Omega.{arith}
 use Rattle.slab.specs.Held.{held}
-use Rattle.map_store.proofs.Marked.{ones-told}
+use Rattle.marks.proofs.Marked.{ones-told}
 use Rattle.map_store.proofs.store_calls.MapBlockStore.left.Needs as need
 
 pub returns : need.returns

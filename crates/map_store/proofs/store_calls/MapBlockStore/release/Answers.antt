@@ -7,11 +7,11 @@ use Rattle.std.specs.declared.result.Result.the-variants.{Ok}
 use Rattle.block.specs.Blocks.{Blocks}
 use Rattle.block.proofs.Wholes.{out-below}
 use Rattle.slab.specs.Held.{held}
-use Rattle.slab.specs.Layout.{release-tells}
-use Rattle.slab.proofs.Places.{freed}
-use Rattle.slab.proofs.Wholes.{laid-whole}
-use Rattle.map_store.specs.Map.{mark, Marks}
-use Rattle.map_store.proofs.Marked.{freed-marks}
+use Rattle.layout.specs.Layout.{release-tells}
+use Rattle.layout.proofs.Places.{freed}
+use Rattle.layout.proofs.Wholes.{laid-whole}
+use Rattle.marks.specs.Map.{mark, Marks}
+use Rattle.marks.proofs.Marked.{freed-marks}
 use Rattle.map_store.proofs.store_calls.MapBlockStore.release.Needs as need
 
 pub ghost-self-then-branch : need.ghost-self-then-branch

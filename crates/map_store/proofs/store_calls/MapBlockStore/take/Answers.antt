@@ -6,8 +6,8 @@ use Rattle.std.proofs.shelf.Tests.{lt-ltb, cond-true}
 use Rattle.block.specs.Blocks.{Blocks}
 use Rattle.block.specs.Calls.{taken}
 use Rattle.slab.specs.Held.{held}
-use Rattle.map_store.specs.Map.{Marks}
-use Rattle.map_store.proofs.Marked.{lowest-found, taken-marks}
+use Rattle.marks.specs.Map.{Marks}
+use Rattle.marks.proofs.Marked.{lowest-found, taken-marks}
 use Rattle.map_store.proofs.store_calls.MapBlockStore.take.Needs as need
 
 pub ghost-self : need.ghost-self

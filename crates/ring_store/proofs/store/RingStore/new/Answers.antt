@@ -4,7 +4,7 @@ use Prim.Native.Nat.{ℕ, _<_}
 use native.Mathlib.Omega.{arith}
 use lib.ListN.{getD, replicate}
 use Rattle.std.proofs.shelf.Lists.{getD-replicate}
-use Rattle.slab.proofs.Makings.{laid-free, free-fits}
+use Rattle.layout.proofs.Makings.{laid-free, free-fits}
 use Rattle.ring_store.proofs.store.RingStore.new.Needs as need
 
 zeros : (k : ℕ) → k < 128 → _≡_ {A = ℕ} (getD (replicate 128 0) k 0) 0

@@ -3,10 +3,10 @@ use Prim.Native.Nat.{ℕ, _<_}
 use native.Mathlib.Omega.{arith}
 use Rattle.std.proofs.shelf.Tests.{lt-ltb, cond-true}
 use Rattle.block.specs.Calls.{taken}
-use Rattle.slab.specs.Layout.{room, laid, Fits}
-use Rattle.slab.proofs.Layouts.{after-claim}
-use Rattle.slab.proofs.Fitting.{fits-taken}
-use Rattle.slab.proofs.Makings.{claimed, claimed-past}
+use Rattle.layout.specs.Layout.{room, laid, Fits}
+use Rattle.layout.proofs.Layouts.{after-claim}
+use Rattle.layout.proofs.Fitting.{fits-taken}
+use Rattle.layout.proofs.Makings.{claimed, claimed-past}
 use Rattle.slab.proofs.memory.Slab.claim.Needs as need
 
 pub returns-then-k-size : need.returns-then-k-size

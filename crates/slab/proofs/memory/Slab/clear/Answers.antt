@@ -7,9 +7,9 @@ use base.Fml.{GName}
 use borrow.Author.Count.{below-more}
 use lib.ListN.{length, getD}
 use Rattle.std.proofs.shelf.Lists.{getD-set-same, getD-set-other, length-set, drop-set-lt}
-use Rattle.slab.specs.Layout.{room, laid, past, Fits}
-use Rattle.slab.proofs.Layouts.{past-same}
-use Rattle.slab.proofs.Makings.{laid-free, free-fits}
+use Rattle.layout.specs.Layout.{room, laid, past, Fits}
+use Rattle.layout.proofs.Layouts.{past-same}
+use Rattle.layout.proofs.Makings.{laid-free, free-fits}
 use Rattle.slab.proofs.memory.Slab.clear.Needs as need
 
 pub loop-k-again : need.loop-k-again

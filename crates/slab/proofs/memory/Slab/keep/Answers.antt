@@ -3,9 +3,9 @@ use Prim.Native.Nat.{ℕ, _+_, _-_, _*_, _<_, _≤_}
 use native.Mathlib.Omega.{arith}
 use lib.ListN.{getD, set}
 use Rattle.block.proofs.Answered.{holders-told, keep-ok}
-use Rattle.slab.specs.Layout.{Fits, laid, past}
-use Rattle.slab.proofs.Layouts.{after-keep, cell-held, past-set-cell}
-use Rattle.slab.proofs.Fitting.{fits-kept}
+use Rattle.layout.specs.Layout.{Fits, laid, past}
+use Rattle.layout.proofs.Layouts.{after-keep, cell-held, past-set-cell}
+use Rattle.layout.proofs.Fitting.{fits-kept}
 use Rattle.slab.proofs.memory.Slab.keep.Needs as need
 
 pub returns : need.returns

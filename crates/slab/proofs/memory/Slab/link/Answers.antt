@@ -3,8 +3,8 @@ use Prim.Native.Nat.{ℕ, _*_, _<_}
 use native.Mathlib.Omega.{arith}
 use lib.ListN.{set}
 use Rattle.std.proofs.shelf.Tests.{lt-ltb, cond-true}
-use Rattle.slab.specs.Layout.{room}
-use Rattle.slab.proofs.Layouts.{after-link, past-set-word}
+use Rattle.layout.specs.Layout.{room}
+use Rattle.layout.proofs.Layouts.{after-link, past-set-word}
 use Rattle.slab.proofs.memory.Slab.link.Needs as need
 
 pub returns-then-k-size : need.returns-then-k-size

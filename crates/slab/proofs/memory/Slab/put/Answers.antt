@@ -3,10 +3,10 @@ use Prim.Native.Nat.{ℕ, _+_, _-_, _*_, _<_, _≤_}
 use native.Mathlib.Omega.{arith}
 use lib.ListN.{getD, set}
 use Rattle.block.proofs.Answered.{put-ok}
-use Rattle.slab.specs.Layout.{Fits, laid, past}
-use Rattle.slab.proofs.Layouts.{after-put, cell-held, past-set-word}
-use Rattle.slab.proofs.Fitting.{fits-written}
-use Rattle.slab.proofs.Places.{placed}
+use Rattle.layout.specs.Layout.{Fits, laid, past}
+use Rattle.layout.proofs.Layouts.{after-put, cell-held, past-set-word}
+use Rattle.layout.proofs.Fitting.{fits-written}
+use Rattle.layout.proofs.Places.{placed}
 use Rattle.slab.proofs.memory.Slab.put.Needs as need
 
 pub returns : need.returns

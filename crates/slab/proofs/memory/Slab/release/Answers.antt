@@ -3,10 +3,10 @@ use Prim.Native.Nat.{ℕ, _+_, _-_, _*_, _<_, _≤_}
 use native.Mathlib.Omega.{arith}
 use lib.ListN.{getD, set}
 use Rattle.block.proofs.Answered.{holders-told}
-use Rattle.slab.specs.Layout.{Fits, laid, past}
-use Rattle.slab.proofs.Layouts.{after-release, cell-held, past-set-cell}
-use Rattle.slab.proofs.Fitting.{fits-released}
-use Rattle.slab.proofs.Places.{release-told}
+use Rattle.layout.specs.Layout.{Fits, laid, past}
+use Rattle.layout.proofs.Layouts.{after-release, cell-held, past-set-cell}
+use Rattle.layout.proofs.Fitting.{fits-released}
+use Rattle.layout.proofs.Places.{release-told}
 use Rattle.slab.proofs.memory.Slab.release.Needs as need
 
 pub returns : need.returns

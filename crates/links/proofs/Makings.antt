@@ -7,12 +7,12 @@ use base.Fml.{GName}
 use lib.ListN.{length, getD, drop}
 use Rattle.std.specs.Iters.{counting}
 use Rattle.block.specs.Blocks.{all-free}
-use Rattle.slab.specs.Layout.{room, laid, past, Fits, Cleared}
-use Rattle.slab.proofs.Layouts.{room-same, past-same}
-use Rattle.slab.proofs.Makings.{laid-free, free-fits}
-use Rattle.chain_store.specs.Chain.{chain, Threads}
-use Rattle.chain_store.proofs.Links.{chain-counting}
-use Rattle.chain_store.proofs.Threading.{listed-free}
+use Rattle.layout.specs.Layout.{room, laid, past, Fits, Cleared}
+use Rattle.layout.proofs.Layouts.{room-same, past-same}
+use Rattle.layout.proofs.Makings.{laid-free, free-fits}
+use Rattle.links.specs.Chain.{chain, Threads}
+use Rattle.links.proofs.Links.{chain-counting}
+use Rattle.links.proofs.Threading.{listed-free}
 
 -- ws and hs are the memory that was lent, vs and gs what it holds once it is linked
 module _ (ws hs vs gs : List ℕ) (clear : Cleared (room ws hs) hs gs) (long : length vs ≡ length ws)

@@ -11,7 +11,7 @@ use Rattle.block.specs.declared.refusals.Refusal.{Refusal}
 use Rattle.block.specs.Blocks.{Blocks, is-free}
 use Rattle.block.specs.Calls.{refused-if}
 use Rattle.block.proofs.Answered.{accepted, passed, same-value, free-false, held-false}
-use Rattle.slab.specs.Layout.{place-answer, release-tells}
+use Rattle.layout.specs.Layout.{place-answer, release-tells}
 
 -- a word that has a place is one of a block that is out
 pub placed : (m : Blocks) (b i k : ℕ) → Ok k ≡ place-answer m b i → (0 < m .holders b) × (i < 16) × (k ≡ 16 * b + i)

@@ -11,7 +11,7 @@ use Rattle.std.proofs.shelf.Bits.{shr-shr, shl-shr, pow-add, pow-below}
 use Rattle.std.proofs.shelf.Tests.{cases-lt}
 use Rattle.block.specs.Blocks.{sum-to}
 use Rattle.block.proofs.Sums.{sum-zero, sum-more, sum-same}
-use Rattle.map_store.specs.Map.{bit}
+use Rattle.marks.specs.Map.{bit}
 
 pub bit-ways : (n j : ℕ) → (bit n j ≡ 0) ⊎ (bit n j ≡ 1)
 bit-ways n j = ⊎-elim (λ l. inl (omega arith)) (λ l. inr (omega arith)) (cases-lt (bit n j) 1)

@@ -12,7 +12,7 @@ use Rattle.std.proofs.shelf.Ways.{tells}
 use Rattle.block.specs.Blocks.{Blocks, all-free}
 use Rattle.block.specs.Calls.{written, kept, released, taken}
 use Rattle.block.proofs.Counts.{count-written, count-kept, count-released, count-freed, count-taken, count-all-free}
-use Rattle.chain_store.specs.Chain.{Inside, Unheld, Apart, Threads}
+use Rattle.links.specs.Chain.{Inside, Unheld, Apart, Threads}
 
 -- a block that is out is not among them
 pub not-listed : (os : List ℕ) (m : Blocks) (b : ℕ) → Unheld os m → 0 < m .holders b → (k : ℕ) → k < length os → getD os k 0 ≢ b

@@ -14,7 +14,7 @@ use Rattle.std.proofs.shelf.Ways.{tells}
 use Rattle.std.proofs.shelf.Tests.{cases-lt}
 use Rattle.block.specs.Blocks.{Blocks}
 use Rattle.block.specs.Calls.{written, kept, released, taken}
-use Rattle.slab.specs.Layout.{room, held-in, word-in, laid-in, laid, past, Claimed}
+use Rattle.layout.specs.Layout.{room, held-in, word-in, laid-in, laid, past, Claimed}
 
 pub room-same : (ws ws′ hs hs′ : List ℕ) → length ws′ ≡ length ws → length hs′ ≡ length hs → room ws′ hs′ ≡ room ws hs
 room-same ws ws′ hs hs′ e f = ap₂ (λ (x y : ℕ). min (min (x / 16) y) 16384) e f

@@ -13,8 +13,8 @@ use Rattle.std.proofs.shelf.Parts.{drop-putMid}
 use Rattle.std.proofs.shelf.Tests.{cases-lt}
 use Rattle.std.proofs.shelf.Ways.{tells}
 use Rattle.block.specs.Blocks.{Blocks, all-free}
-use Rattle.slab.specs.Layout.{room, held-in, word-in, laid, past, Fits, Claimed}
-use Rattle.slab.proofs.Layouts.{room-same, same-blocks, past-same}
+use Rattle.layout.specs.Layout.{room, held-in, word-in, laid, past, Fits, Claimed}
+use Rattle.layout.proofs.Layouts.{room-same, same-blocks, past-same}
 
 module _ (ws hs ys : List ℕ) (b : ℕ) (l : b < room ws hs) (e : ys ≡ replicate 16 0) where
   abbrev zeroed : List ℕ

@@ -8,8 +8,8 @@ use native.Mathlib.Numerals.{add-one}
 use lib.ListN.{length, getD, set}
 use Rattle.std.specs.Iters.{counting}
 use Rattle.std.proofs.shelf.Lists.{getD-set-same, getD-set-other}
-use Rattle.slab.specs.Layout.{Claimed}
-use Rattle.chain_store.specs.Chain.{chain}
+use Rattle.layout.specs.Layout.{Claimed}
+use Rattle.links.specs.Chain.{chain}
 
 pub length-chain : (ws : List ℕ) (t n : ℕ) → length (chain ws t n) ≡ n
 length-chain ws t zero = refl

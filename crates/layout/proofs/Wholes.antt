@@ -5,7 +5,7 @@ use Prim.Native.Nat.{ℕ, _≤_}
 use native.Mathlib.Omega.{arith}
 use Rattle.std.proofs.shelf.Ways.{tells}
 use Rattle.block.specs.Blocks.{Whole}
-use Rattle.slab.specs.Layout.{laid, Fits}
+use Rattle.layout.specs.Layout.{laid, Fits}
 
 pub laid-whole : (ws hs : List ℕ) → Fits (laid ws hs) → Whole (laid ws hs)
 laid-whole ws hs f = record {

@@ -15,8 +15,8 @@ use Rattle.std.proofs.shelf.Ways.{tells}
 use Rattle.block.specs.Blocks.{Blocks, all-free, sum-to, spare, free-count}
 use Rattle.block.specs.Calls.{taken, released}
 use Rattle.block.proofs.Sums.{sum-join, sum-same, sum-zero, sum-suc, sum-count}
-use Rattle.map_store.specs.Map.{bit, mark, gone, Marks}
-use Rattle.map_store.proofs.Digits.{bit-ways, bit-full, sum-bits, turned-same, turned-other}
+use Rattle.marks.specs.Map.{bit, mark, gone, Marks}
+use Rattle.marks.proofs.Digits.{bit-ways, bit-full, sum-bits, turned-same, turned-other}
 
 -- the map with the bit of number b turned
 abbrev turned : List ℕ → ℕ → List ℕ

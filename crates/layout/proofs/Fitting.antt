@@ -5,7 +5,7 @@ use native.Mathlib.Omega.{arith}
 use Rattle.std.proofs.shelf.Ways.{tells}
 use Rattle.block.specs.Blocks.{Blocks}
 use Rattle.block.specs.Calls.{written, kept, released, taken}
-use Rattle.slab.specs.Layout.{Fits}
+use Rattle.layout.specs.Layout.{Fits}
 
 pub fits-written : (m : Blocks) (b i w : ℕ) → w < 2 ^ 32 → Fits m → Fits (written m b i w)
 fits-written m b i w l f = (f .0, λ c j. let x = f .1 c j in grind (arith, tells))
