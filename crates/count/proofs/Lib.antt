@@ -1,0 +1,11 @@
+pub mod Sums
+pub mod Founds
+pub mod Totals
+pub mod Holders
+pub mod Needs
+pub mod Cells
+pub mod Keeps
+pub mod Edits
+pub mod Forgets
+pub mod Tallies
+pub mod Laws

@@ -1,0 +1,5 @@
+pub mod Uses
+pub mod Paths
+pub mod Tally
+pub mod Steps
+pub mod Laws

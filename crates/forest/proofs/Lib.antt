@@ -1,0 +1,16 @@
+pub mod Sums
+pub mod Digits
+pub mod Lookups
+pub mod Releases
+pub mod Balances
+pub mod Frames
+pub mod Fills
+pub mod Bounds
+pub mod Reaches
+pub mod Drops
+pub mod Rebuilds
+pub mod Restores
+pub mod Counts
+pub mod Quiets
+pub mod Promises
+pub mod Needs

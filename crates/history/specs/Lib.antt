@@ -1,0 +1,6 @@
+pub mod Histories
+pub mod Counts
+pub mod Calls
+pub mod Runs
+pub mod Views
+pub mod Laws

@@ -1,0 +1,14 @@
+pub mod Tests
+pub mod Members
+pub mod Onces
+pub mod Bits
+pub mod Inks
+pub mod Words
+pub mod Places
+pub mod Lines
+pub mod Floods
+pub mod Draws
+pub mod Changes
+pub mod Touched
+pub mod Boxes
+pub mod Views

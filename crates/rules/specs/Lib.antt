@@ -1,0 +1,16 @@
+pub mod Lists
+pub mod Dots
+pub mod Pens
+pub mod Refusals
+pub mod Cells
+pub mod Lines
+pub mod Reach
+pub mod Sheets
+pub mod Stretches
+pub mod Pictures
+pub mod Bytes
+pub mod InkLaws
+pub mod CellLaws
+pub mod LineLaws
+pub mod DrawLaws
+pub mod ViewLaws
