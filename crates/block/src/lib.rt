@@ -1,4 +1,6 @@
 // What a block store is: its calls, its refusals and what they mean, and nothing of how a store is kept.
+#![tactic(auto)]
+
 mod laws;
 mod lent;
 mod refusals;

@@ -1,4 +1,6 @@
 // Calls of a canvas, what they are answered, and why they are refused, as values.
+#![tactic(auto)]
+
 mod answers;
 mod asked;
 mod refusals;

@@ -8,9 +8,9 @@ use Rattle.block.specs.Blocks.{Blocks, is_free}
 use Rattle.block.specs.Calls.{refused_if, keep_answer, put_answer, kept, released, taken, written}
 use Rattle.block.proofs.Answered.{accepted, free_false}
 use Rattle.block.proofs.Wholes.{out_below}
-use Rattle.slab.specs.Held as slabs
+use Rattle.block_slab.specs.Held as slabs
 use Rattle.layout.specs.Layout.{Claimed}
-use Rattle.slab.specs.declared.memory.Slab.{Slab}
+use Rattle.block_slab.specs.declared.memory.Slab.{Slab}
 use Rattle.layout.proofs.Layouts.{room_words}
 use Rattle.layout.proofs.Wholes.{laid_whole}
 use Rattle.links.specs.Chain.{chain, Inside, Unheld, Apart, Threads}

@@ -5,7 +5,7 @@
 --   order s        the free numbers, the one freed last first
 use Rattle.std.specs.Prelude.{ℕ, List}
 use Rattle.block.specs.Blocks.{Blocks, Frame}
-use Rattle.slab.specs.Held as slabs
+use Rattle.block_slab.specs.Held as slabs
 use Rattle.links.specs.Chain.{chain}
 use Rattle.chain_store.specs.declared.store.ChainStore.{ChainStore}
 

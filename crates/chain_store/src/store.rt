@@ -1,11 +1,11 @@
 // The store's parts, and what always holds of them.
 ghost use Rattle.std.specs.Prelude.{◌≡◌};
 ghost use Rattle.block.specs.Blocks.{free_count};
-ghost use Rattle.slab.specs.Held.{held};
+ghost use Rattle.block_slab.specs.Held.{held};
 ghost use Rattle.layout.specs.Layout.{Fits};
 ghost use Rattle.links.specs.Chain.{Apart, Inside, Unheld, chain};
 
-use slab::Slab;
+use block_slab::Slab;
 
 #[derive(Drop)]
 pub struct ChainStore<'a> {

@@ -10,7 +10,7 @@ ghost use Rattle.chain_store.specs.Order.{held, order, stands_on};
 
 use crate::store::ChainStore;
 use block::{BlockStore, Refusal};
-use slab::Slab;
+use block_slab::Slab;
 
 impl<'a> ChainStore<'a> {
     // A store of as many blocks as the memory has room for, all of them free, 0 first: the least of a sixteenth of the words, the cells, and 16,384.

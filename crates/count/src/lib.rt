@@ -1,4 +1,6 @@
 // How many blocks are out, and what keeps snapshots apart: theorems on plain data. Each function stands for the statements in its contract.
+#![tactic(auto)]
+
 ghost use Rattle.count.specs.Laws.{AllFree, AllReached, BlocksCounted, CountTheorem, NeedCounted, NeverTooMany, NewBesideOld, OthersStay, RoomTold};
 
 // A balanced store: holders are few, every block is reached, and where nothing is held all are free.

@@ -1,4 +1,6 @@
 // Grows a small sheet over each of the three stores, and tells after every step what is out and what is read.
+#![tactic(auto)]
+
 mod snapshots;
 
 use block::BlockStore;

@@ -1,4 +1,6 @@
 // Histories are in specs/; each function here stands for a theorem on them.
+#![tactic(auto)]
+
 ghost use Rattle.history.specs.Laws.{MarksMean, MarksLast, TakesNeed, RunsSound, RunsMade, RunsCounted, RunsTakeNeed, AnswersByHistory, RefusedKeeps, ViewsFit};
 
 // The marks of a line are exactly the last touches, and a place is marked where it is the last edit's.

@@ -1,4 +1,6 @@
 // Inks: dots, the rules by which ink is laid on them, opacity and paper, and the pens that edits are made with.
+#![tactic(auto)]
+
 mod channel;
 mod dot;
 mod pen;

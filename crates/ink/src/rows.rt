@@ -7,14 +7,14 @@ use crate::rule::InkRule;
 
 // Ink laid on the dot at a place.
 fn lay_on<R: InkRule>(rule: &R, ink: Dot, dot: &mut Dot)
-    ensures after { dot_of dot.new ≡ lays rule.now (dot_of ink) (dot_of dot.old) }
+    ensures after { dot_of dot.new ≡ R.InkRule.lays rule.now (dot_of ink) (dot_of dot.old) }
 {
     *dot = rule.lay(ink, *dot);
 }
 
 // One ink laid on every dot of a row.
 pub fn lay_ink<R: InkRule>(rule: &R, ink: Dot, dots: &mut [Dot])
-    ensures after { dots_of dots.new ≡ map (lays rule.now (dot_of ink)) (dots_of dots.old) }
+    ensures after { dots_of dots.new ≡ map (R.InkRule.lays rule.now (dot_of ink)) (dots_of dots.old) }
 {
     for dot in dots.iter_mut() {
         lay_on(rule, ink, dot);
@@ -23,7 +23,7 @@ pub fn lay_ink<R: InkRule>(rule: &R, ink: Dot, dots: &mut [Dot])
 
 // A row of inks laid on a row of dots, each on the dot at its place; dots past the inks stay.
 pub fn lay_row<R: InkRule>(rule: &R, inks: &[Dot], dots: &mut [Dot])
-    ensures after { dots_of dots.new ≡ laid_row (lays rule.now) (dots_of inks.now) (dots_of dots.old) }
+    ensures after { dots_of dots.new ≡ laid_row (R.InkRule.lays rule.now) (dots_of inks.now) (dots_of dots.old) }
 {
     let count = inks.len().min(dots.len());
     for i in 0..count {

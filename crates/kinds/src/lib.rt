@@ -1,4 +1,6 @@
 // The kinds of cells that the trees of a sheet have.
+#![tactic(auto)]
+
 mod dots;
 mod records;
 mod strips;

@@ -1,4 +1,6 @@
 // A block store on lent memory that takes the lowest free number, found in a map of bits.
+#![tactic(auto)]
+
 mod maps;
 mod store;
 mod store_calls;

@@ -1,10 +1,10 @@
 // The store's parts, and what always holds of them.
 ghost use Rattle.std.specs.Prelude.{◌≡◌, ℕ, ◌*◌, ◌<◌, length};
-ghost use Rattle.slab.specs.Held.{held};
+ghost use Rattle.block_slab.specs.Held.{held};
 ghost use Rattle.layout.specs.Layout.{Fits};
 ghost use Rattle.marks.specs.Map.{Marks, mark};
 
-use slab::Slab;
+use block_slab::Slab;
 
 #[derive(Drop)]
 pub struct MapStore<'a> {

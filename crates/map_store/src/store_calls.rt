@@ -2,14 +2,14 @@
 ghost use Rattle.std.specs.Prelude.{◌≡◌, ℕ, ◌<◌, [], ◌∷◌, IfOk};
 ghost use Rattle.block.specs.Blocks.{all_free};
 ghost use Rattle.block.specs.Calls.{Takes};
-ghost use Rattle.slab.specs.Held.{held, stands_on};
+ghost use Rattle.block_slab.specs.Held.{held, stands_on};
 ghost use Rattle.layout.specs.Layout.{past, room};
 ghost use Rattle.layout.proofs.Wholes.{laid_whole};
 
 use crate::maps::{lowest, ones, turn};
 use crate::store::MapStore;
 use block::{BlockStore, Refusal};
-use slab::Slab;
+use block_slab::Slab;
 
 impl<'a> MapStore<'a> {
     // A store of as many blocks as the memory has room for, all of them free: the least of a sixteenth of the words, the cells, and 16,384.

@@ -1,4 +1,6 @@
 // mix: lays inks on dots. A request stands in the arguments, or on each line of standard input.
+#![tactic(auto)]
+
 use mixing::answer_line;
 use std::io::{BufRead, BufReader};
 use std::{env, io};

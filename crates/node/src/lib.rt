@@ -1,4 +1,6 @@
 // One block as a node of a tree: its sixteen words read, filled in, and let go.
+#![tactic(auto)]
+
 mod fills;
 mod releases;
 mod words;

@@ -1,4 +1,6 @@
 // Requests to mix inks, as they are written.
+#![tactic(auto)]
+
 mod reading;
 mod words;
 

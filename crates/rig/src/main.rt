@@ -1,4 +1,6 @@
 // Plays one list of calls on each of the three stores, and tells what they answered.
+#![tactic(auto)]
+
 mod calls;
 mod play;
 mod story;

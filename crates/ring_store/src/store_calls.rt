@@ -7,7 +7,7 @@ ghost use Rattle.ring_store.specs.Ring.{ahead, held, stands_on};
 
 use crate::store::RingStore;
 use block::{BlockStore, Refusal};
-use slab::Slab;
+use block_slab::Slab;
 
 impl RingStore {
     // A store of 128 blocks, all of them free. The first number that it takes is 0.
@@ -92,7 +92,7 @@ impl BlockStore for RingStore {
     }
 
     fn get(&self, b: u32, i: u32) -> Result<u32, Refusal> {
-        slab::get(&self.words, &self.cells, b, i)
+        block_slab::get(&self.words, &self.cells, b, i)
     }
 
     fn put(&mut self, b: u32, i: u32, w: u32) -> Result<(), Refusal>
@@ -109,14 +109,14 @@ impl BlockStore for RingStore {
     }
 
     fn holders(&self, b: u32) -> Result<u16, Refusal> {
-        slab::holders(&self.words, &self.cells, b)
+        block_slab::holders(&self.words, &self.cells, b)
     }
 
     fn left(&self) -> u32 {
-        slab::left(&self.words, &self.cells)
+        block_slab::left(&self.words, &self.cells)
     }
 
     fn size(&self) -> u32 {
-        slab::size(&self.words, &self.cells) as u32
+        block_slab::size(&self.words, &self.cells) as u32
     }
 }

@@ -1,4 +1,6 @@
 // Sheets: the ten trees of a snapshot, and the root block that has their words.
+#![tactic(auto)]
+
 mod parts;
 mod roots;
 

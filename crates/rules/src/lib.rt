@@ -1,4 +1,6 @@
 // The rules of inks, cells, edits and views are in specs/; each function here stands for a theorem on them.
+#![tactic(auto)]
+
 ghost use Rattle.rules.specs.InkLaws.{BlankKeeps, BlankFades, LaidSound, FadedSound, PaperByte};
 ghost use Rattle.rules.specs.CellLaws.{DotsPack, StripsPack, RecordsPack, DotsPlaced, StripsPlaced};
 ghost use Rattle.rules.specs.LineLaws.{LineEnds, LineConnects};

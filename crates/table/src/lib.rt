@@ -1,4 +1,6 @@
 // The table of snapshots: for each of 64 numbers the root block and the parent, and the order in which the live ones were made.
+#![tactic(auto)]
+
 mod records;
 mod tables;
 

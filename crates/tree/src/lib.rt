@@ -1,4 +1,6 @@
 // Trees of cells: one text for every store of blocks and every kind of cell.
+#![tactic(auto)]
+
 mod builds;
 mod cells;
 mod needs;

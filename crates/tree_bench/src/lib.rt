@@ -1,4 +1,6 @@
 // What the benchmark of trees times, over the store with a map of bits. It is called from C.
+#![tactic(auto)]
+
 use block::BlockStore;
 use map_store::MapStore;
 use tree::{OneCell, Tree};

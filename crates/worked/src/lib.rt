@@ -1,4 +1,6 @@
 // Worked cases of the rules, computed from the definitions.
+#![tactic(auto)]
+
 ghost use Rattle.worked.specs.Runs.{Nine, Eight, Refusals, Redone, Fills, Bytes};
 ghost use Rattle.worked.specs.Table.{Worked};
 

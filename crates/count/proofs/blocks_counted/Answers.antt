@@ -2,4 +2,4 @@ use Rattle.count.proofs.Laws.{need_counted, blocks_counted, count_theorem, room_
 use Rattle.count.proofs.blocks_counted.Goals as goal
 
 pub returns : goal.returns
-returns c = record { goal = need_counted; shared = blocks_counted; count = count_theorem; room = room_told }
+returns c = record { need = need_counted; shared = blocks_counted; count = count_theorem; room = room_told }

@@ -4,4 +4,4 @@ use Rattle.ink.proofs.Places.{done}
 use Rattle.ink.proofs.rows.lay_ink.Given as goal
 
 abbrev pub invariant-loop-dot : goal.invariant-loop-dot
-invariant-loop-dot g l = dots_of l.dots ≡ done (λ k. g.R.InkRule.lays l.rule (dot_of l.ink)) l.dot_index (dots_of l.initial.dots)
+invariant-loop-dot g l = dots_of l.dots ≡ done (λ k. g.R.InkRule.lays l.rule (dot_of l.ink)) l.dot-index (dots_of l.initial.dots)

@@ -21,8 +21,8 @@ loop-i-preserved g c =
     let ink : dot_of c.index-inks-i.result ≡ get_or (dots_of inks) i blank
     = ap dot_of c.index-inks-i.is ∙ sym (get_or-map dot_of inks i c.index-inks-i.result blank below)
     in
-    let new : dot_of c.lay-on.new.dot ≡ lays (dot_of c.index-inks-i.result) (dot_of (get_or now i old)) = c.lay-on.ensures.after in
-    place_more (λ k. lays (get_or (dots_of inks) k blank)) i c.args.dots.now now old c.lay-on.new.dot
+    let new : dot_of c.lay_on.new.dot ≡ lays (dot_of c.index-inks-i.result) (dot_of (get_or now i old)) = c.lay_on.ensures.after in
+    place_more (λ k. lays (get_or (dots_of inks) k blank)) i c.args.dots.now now old c.lay_on.new.dot
     (omega (arith, c.loop-i-test.true, c.min-count.ensures)) c.loop-i.auto.dots c.loop-i.invariant (new ∙ ap (λ (s : dots.Dot). lays s (dot_of (get_or now i old))) ink)
 
 pub returns : goal.returns

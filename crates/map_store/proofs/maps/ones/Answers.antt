@@ -9,8 +9,8 @@ use Rattle.map_store.proofs.maps.ones.Goals as goal
 pub loop-w-init : goal.loop-w-init
 loop-w-init c = (sym (sum_zero (mark c.args.map.now)), omega arith)
 
-pub overflow-add-n : goal.overflow-add-n
-overflow-add-n c =
+pub overflow_add-n : goal.overflow_add-n
+overflow_add-n c =
     let m = get_or c.args.map.now c.loop-w.w 0 in
     let fits : m < 2 ^ 32 = omega arith in omega (arith, ones-le 32 m fits)
 

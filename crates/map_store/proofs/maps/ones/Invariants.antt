@@ -3,5 +3,5 @@ use Rattle.block.specs.Blocks.{sum_to}
 use Rattle.marks.specs.Map.{mark}
 use Rattle.map_store.proofs.maps.ones.Given as goal
 
-abbrev pub invariant_loop_w : goal.invariant_loop_w
-invariant_loop_w l = (l.n ≡ sum_to (32 * l.w) (mark l.map)) × (l.n ≤ 32 * l.w)
+abbrev pub invariant-loop-w : goal.invariant-loop-w
+invariant-loop-w l = (l.n ≡ sum_to (32 * l.w) (mark l.map)) × (l.n ≤ 32 * l.w)

@@ -6,7 +6,7 @@ use Rattle.block.specs.Calls.{released}
 use Rattle.forest.specs.Trees.{let_go}
 use Rattle.forest.proofs.Releases.{released_flat, released_null, released_last, released_more, released_leaf, released_anyway}
 use Rattle.node.proofs.releases.+let_go.Goals as goal
-use Rattle.node.proofs.releases.+let_go.Goals.{else-order-gt1-via-then-order-gt1+else-held-once, else_order_gt1_via_else_order_gt1}
+use Rattle.node.proofs.releases.+let_go.Goals.{else-order-gt1-via-then-order-gt1+else-held_once, else-order-gt1-via-else-order-gt1}
 
 pub returns-then-order-eq0 : goal.returns-then-order-eq0
 returns-then-order-eq0 g t c =
@@ -19,7 +19,7 @@ loop-child-init g t c = refl
 pub loop-child-preserved : goal.loop-child-preserved
 loop-child-preserved g t c =
     let k = c.args.order - 1 in
-    let ws = c.words-of-children.result in
+    let ws = c.words_of-children.result in
     let m = g.S.BlockStore.blocks c.loop-child.store in
     let e = at_drop_more (fold (let_go k) m) ws c.loop-child.child-index 0 (omega arith) in
     ap (λ (n : Blocks). fold (let_go k) n (drop (c.loop-child.child-index + 1) ws)) c.let_go.ensures ∙ sym e ∙ c.loop-child.invariant
@@ -27,13 +27,13 @@ loop-child-preserved g t c =
 pub returns-after-loop-child : goal.returns-after-loop-child
 returns-after-loop-child g t c =
     let k = c.args.order - 1 in
-    let ws = c.words-of-children.result in
+    let ws = c.words_of-children.result in
     let m = g.S.BlockStore.blocks c.args.store.now in
     let e = at_drop_all (fold (let_go k) (g.S.BlockStore.blocks c.loop-child.store)) ws c.loop-child.child-index (omega arith) in
     let r = released_anyway m _ (c.args.word - 1) c.release.result (g.S.BlockStore.whole c.args.store.now) c.release.ensures.answer c.release.ensures.after in
     let a = ap (λ (n : Blocks). fold (let_go k) n ws) r in
-    let b = ap (fold (let_go k) (released m (c.args.word - 1))) c.words-of-children.ensures in
-    let o = eqb-true _ _ (sym c.held-once.ensures ∙ c.if-held-once.true) in
+    let b = ap (fold (let_go k) (released m (c.args.word - 1))) c.words_of-children.ensures in
+    let o = eqb-true _ _ (sym c.held_once.ensures ∙ c.if-held_once.true) in
     sym e ∙ c.loop-child.invariant ∙ a ∙ b ∙ sym (released_last c.args.order c.args.word m (omega arith) (omega arith) o)
 
 pub returns-else-order-gt1 : goal.returns-else-order-gt1
@@ -41,6 +41,6 @@ returns-else-order-gt1 g t c =
     let m = g.S.BlockStore.blocks c.args.store.now in
     released_anyway m _ (c.args.word - 1) c.release-else-order-gt1.result (g.S.BlockStore.whole c.args.store.now) c.release-else-order-gt1.ensures.answer c.release-else-order-gt1.ensures.after ∙
     sym (elim c.else-order-gt1.branch [
-      | else-order-gt1-via-then-order-gt1+else-held-once w ↦ released_more c.args.order c.args.word m (omega arith) (omega arith) (eqb-false _ _ (sym w.held-once.ensures ∙ w.if-held-once.false))
-      | else_order_gt1_via_else_order_gt1 w ↦ let o : c.args.order ≡ 1 = omega arith in rw o (released_leaf c.args.word m (omega arith))
+      | else-order-gt1-via-then-order-gt1+else-held_once w ↦ released_more c.args.order c.args.word m (omega arith) (omega arith) (eqb-false _ _ (sym w.held_once.ensures ∙ w.if-held_once.false))
+      | else-order-gt1-via-else-order-gt1 w ↦ let o : c.args.order ≡ 1 = omega arith in rw o (released_leaf c.args.word m (omega arith))
     ])

@@ -2,8 +2,8 @@ use Rattle.std.proofs.Common.{◌≡◌, ℕ, ◌-◌, drop, fold}
 use Rattle.forest.specs.Trees.{let_go}
 use Rattle.node.proofs.releases.+let_go.Given as goal
 
-abbrev pub decreases-let-go : goal.decreases-let-go
-decreases-let-go g l = l.order
+abbrev pub decreases-let_go : goal.decreases-let_go
+decreases-let_go g l = l.order
 
 -- what is still to be let go, from here as from where the loop began
 abbrev pub invariant-loop-child : goal.invariant-loop-child

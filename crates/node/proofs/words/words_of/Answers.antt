@@ -8,7 +8,7 @@ loop-i-preserved g c = (
   simp length-set c.loop-i.invariant.0,
   below_more _ _
       (λ k h. let ne : k ≢ c.loop-i.i = omega arith in rw get_or-set_other (c.loop-i.invariant.1 k h))
-      (let lt : c.loop-i.i < length c.loop-i.all = omega arith in rw get_or-set_same c.child-of.ensures),
+      (let lt : c.loop-i.i < length c.loop-i.all = omega arith in rw get_or-set_same c.child_of.ensures),
 )
 
 pub returns : goal.returns

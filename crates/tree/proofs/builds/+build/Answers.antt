@@ -13,23 +13,23 @@ use Rattle.tree.proofs.builds.+build.Goals as goal
 pub returns-then-stretch-eq0 : goal.returns-then-stretch-eq0
 returns-then-stretch-eq0 g t c = λ v.
     let m = g.S.BlockStore.blocks c.args.store.now in
-    let q = c.new-word-new.result in
-    let d = done_leaf (g.P.Plan.new c.args.plan.now) m c.args.word c.args.stretch.at q (not (eqb q c.args.word)) c.new-word-new.ensures (λ e. grind (arith, nat_tests)) in
-    subst (λ (k : ℕ). Done (g.P.Plan.new c.args.plan.now) m m k c.args.word c.args.stretch.at q (not (eqb q c.args.word)) × Counted (g.P.Plan.new c.args.plan.now) m m k c.args.word c.args.stretch.at q (not (eqb q c.args.word))) (sym c.if-stretch-eq0.true) (d, leaf_count (g.P.Plan.new c.args.plan.now) m c.args.word c.args.stretch.at q c.new-word-new.ensures)
+    let q = c.new_word-new.result in
+    let d = done_leaf (g.P.Plan.new c.args.plan.now) m c.args.word c.args.stretch.at q (not (eqb q c.args.word)) c.new_word-new.ensures (λ e. grind (arith, nat_tests)) in
+    subst (λ (k : ℕ). Done (g.P.Plan.new c.args.plan.now) m m k c.args.word c.args.stretch.at q (not (eqb q c.args.word)) × Counted (g.P.Plan.new c.args.plan.now) m m k c.args.word c.args.stretch.at q (not (eqb q c.args.word))) (sym c.if-stretch-eq0.true) (d, leaf_count (g.P.Plan.new c.args.plan.now) m c.args.word c.args.stretch.at q c.new_word-new.ensures)
 
 pub loop-i-init : goal.loop-i-init
 loop-i-init g t c = (refl, refl, (λ j l. none_marked 16 j), (λ v. (part_none (g.P.Plan.new c.args.plan.now) (g.S.BlockStore.blocks c.args.store.now) (c.args.stretch.order - 1) c.args.word c.args.stretch.at _ _, count_none (g.P.Plan.new c.args.plan.now) (g.S.BlockStore.blocks c.args.store.now) (c.args.stretch.order - 1) c.args.word c.args.stretch.at _)))
 
-pub overflow-mul-stretch : goal.overflow-mul-stretch
-overflow-mul-stretch g t c = omega (arith, at_fits c.args.stretch.at c.args.stretch.order c.loop-i.i c.args.stretch.within c.if-stretch-eq0.false c.args.stretch.shallow c.loop-i-test.true)
+pub overflow_mul-stretch : goal.overflow_mul-stretch
+overflow_mul-stretch g t c = omega (arith, at_fits c.args.stretch.at c.args.stretch.order c.loop-i.i c.args.stretch.within c.if-stretch-eq0.false c.args.stretch.shallow c.loop-i-test.true)
 
-pub overflow-add-stretch : goal.overflow-add-stretch
-overflow-add-stretch g t c = omega (arith, at_fits c.args.stretch.at c.args.stretch.order c.loop-i.i c.args.stretch.within c.if-stretch-eq0.false c.args.stretch.shallow c.loop-i-test.true)
+pub overflow_add-stretch : goal.overflow_add-stretch
+overflow_add-stretch g t c = omega (arith, at_fits c.args.stretch.at c.args.stretch.order c.loop-i.i c.args.stretch.within c.if-stretch-eq0.false c.args.stretch.shallow c.loop-i-test.true)
 
-pub invariant-of-build : goal.invariant-of-build
-invariant-of-build g t c =
+pub invariant_of-build : goal.invariant_of-build
+invariant_of-build g t c =
     let h = c.args.stretch.shallow in
-    (omega arith, (at_child c.args.stretch.at c.args.stretch.order c.loop-i.i c.args.stretch.within c.if-stretch-eq0.false c.args.stretch.shallow c.loop-i-test.true, tt))
+    record { shallow = omega arith; within = at_child c.args.stretch.at c.args.stretch.order c.loop-i.i c.args.stretch.within c.if-stretch-eq0.false c.args.stretch.shallow c.loop-i-test.true }
 
 pub loop-i-preserved : goal.loop-i-preserved
 loop-i-preserved g t c = (
@@ -37,8 +37,8 @@ loop-i-preserved g t c = (
   simp length-set c.loop-i.invariant.1,
   (λ j l. get_or-set_other c.loop-i.fresh c.loop-i.i j c.in-Ok.built.fresh false (omega arith) ∙ c.loop-i.invariant.2 j (omega arith)),
   (λ v. (
-    part_next _ _ _ _ c.args.stretch.order c.args.word c.args.stretch.at c.loop-i.words c.loop-i.fresh c.loop-i.changed c.loop-i.i c.child-of-old.result _ _ c.if-stretch-eq0.false v c.loop-i.invariant.0 c.loop-i.invariant.1 c.loop-i-test.true (c.loop-i.invariant.3 v).0 c.child-of-old.ensures (c.in-Ok.ensures (live_here _ _ _ c.args.stretch.order c.args.word _ _ _ _ c.loop-i.i _ c.if-stretch-eq0.false v (c.loop-i.invariant.3 v).0 c.child-of-old.ensures)).0,
-    next_count _ _ _ c.args.stretch.order c.args.word c.args.stretch.at _ _ _ c.loop-i.i c.if-stretch-eq0.false v (c.loop-i.invariant.3 v).0 (c.loop-i.invariant.3 v).1 _ c.child-of-old.result _ _ _ c.child-of-old.ensures (c.in-Ok.ensures (live_here _ _ _ c.args.stretch.order c.args.word _ _ _ _ c.loop-i.i _ c.if-stretch-eq0.false v (c.loop-i.invariant.3 v).0 c.child-of-old.ensures)).0.grown (λ j k. get_or-set_other c.loop-i.words c.loop-i.i j c.in-Ok.built.word 0 (omega arith)) (get_or-set_same c.loop-i.words c.loop-i.i c.in-Ok.built.word 0 (omega arith)) (c.in-Ok.ensures (live_here _ _ _ c.args.stretch.order c.args.word _ _ _ _ c.loop-i.i _ c.if-stretch-eq0.false v (c.loop-i.invariant.3 v).0 c.child-of-old.ensures)).1,
+    part_next _ _ _ _ c.args.stretch.order c.args.word c.args.stretch.at c.loop-i.words c.loop-i.fresh c.loop-i.changed c.loop-i.i c.child_of-old.result _ _ c.if-stretch-eq0.false v c.loop-i.invariant.0 c.loop-i.invariant.1 c.loop-i-test.true (c.loop-i.invariant.3 v).0 c.child_of-old.ensures (c.in-Ok.ensures (live_here _ _ _ c.args.stretch.order c.args.word _ _ _ _ c.loop-i.i _ c.if-stretch-eq0.false v (c.loop-i.invariant.3 v).0 c.child_of-old.ensures)).0,
+    next_count _ _ _ c.args.stretch.order c.args.word c.args.stretch.at _ _ _ c.loop-i.i c.if-stretch-eq0.false v (c.loop-i.invariant.3 v).0 (c.loop-i.invariant.3 v).1 _ c.child_of-old.result _ _ _ c.child_of-old.ensures (c.in-Ok.ensures (live_here _ _ _ c.args.stretch.order c.args.word _ _ _ _ c.loop-i.i _ c.if-stretch-eq0.false v (c.loop-i.invariant.3 v).0 c.child_of-old.ensures)).0.grown (λ j k. get_or-set_other c.loop-i.words c.loop-i.i j c.in-Ok.built.word 0 (omega arith)) (get_or-set_same c.loop-i.words c.loop-i.i c.in-Ok.built.word 0 (omega arith)) (c.in-Ok.ensures (live_here _ _ _ c.args.stretch.order c.args.word _ _ _ _ c.loop-i.i _ c.if-stretch-eq0.false v (c.loop-i.invariant.3 v).0 c.child_of-old.ensures)).1,
   )),
 )
 
@@ -56,13 +56,13 @@ returns-in-Ok-fill g t c = λ v. (
 
 pub returns-in-Err : goal.returns-in-Err
 returns-in-Err g t c = λ v. (
-  undo_child _ _ _ c.args.stretch.order c.args.word c.args.stretch.at _ _ _ c.loop-i.i c.if-stretch-eq0.false v (c.loop-i.invariant.3 v).0 c.loop-i.invariant.2 c.loop-i.auto.i-end _ _ c.child-of-old.result c.child-of-old.ensures (c.in-Err.ensures (live_here _ _ _ c.args.stretch.order c.args.word _ _ _ _ c.loop-i.i _ c.if-stretch-eq0.false v (c.loop-i.invariant.3 v).0 c.child-of-old.ensures)).0 c.drop-fresh.ensures,
-  next_why _ _ _ c.args.stretch.order c.args.word c.args.stretch.at _ _ _ c.loop-i.i c.if-stretch-eq0.false v (c.loop-i.invariant.3 v).0 (c.loop-i.invariant.3 v).1 c.in-Err.e c.child-of-old.result c.loop-i-test.true c.child-of-old.ensures (c.in-Err.ensures (live_here _ _ _ c.args.stretch.order c.args.word _ _ _ _ c.loop-i.i _ c.if-stretch-eq0.false v (c.loop-i.invariant.3 v).0 c.child-of-old.ensures)).1,
+  undo_child _ _ _ c.args.stretch.order c.args.word c.args.stretch.at _ _ _ c.loop-i.i c.if-stretch-eq0.false v (c.loop-i.invariant.3 v).0 c.loop-i.invariant.2 c.loop-i.auto.i-end _ _ c.child_of-old.result c.child_of-old.ensures (c.in-Err.ensures (live_here _ _ _ c.args.stretch.order c.args.word _ _ _ _ c.loop-i.i _ c.if-stretch-eq0.false v (c.loop-i.invariant.3 v).0 c.child_of-old.ensures)).0 c.drop_fresh.ensures,
+  next_why _ _ _ c.args.stretch.order c.args.word c.args.stretch.at _ _ _ c.loop-i.i c.if-stretch-eq0.false v (c.loop-i.invariant.3 v).0 (c.loop-i.invariant.3 v).1 c.in-Err.e c.child_of-old.result c.loop-i-test.true c.child_of-old.ensures (c.in-Err.ensures (live_here _ _ _ c.args.stretch.order c.args.word _ _ _ _ c.loop-i.i _ c.if-stretch-eq0.false v (c.loop-i.invariant.3 v).0 c.child_of-old.ensures)).1,
 )
 
 pub returns-in-Err-fill : goal.returns-in-Err-fill
 returns-in-Err-fill g t c = λ v. (
-  undo_words _ _ _ c.args.stretch.order c.args.word c.args.stretch.at _ _ _ c.loop-i.i c.if-stretch-eq0.false v (c.loop-i.invariant.3 v).0 c.loop-i.invariant.2 c.loop-i.auto.i-end _ _ c.in-Err-fill.ensures.0 c.drop-fresh-in-Err-fill.ensures,
+  undo_words _ _ _ c.args.stretch.order c.args.word c.args.stretch.at _ _ _ c.loop-i.i c.if-stretch-eq0.false v (c.loop-i.invariant.3 v).0 c.loop-i.invariant.2 c.loop-i.auto.i-end _ _ c.in-Err-fill.ensures.0 c.drop_fresh-in-Err-fill.ensures,
   words_why _ _ _ c.args.stretch.order c.args.word c.args.stretch.at _ _ _ c.loop-i.i c.if-stretch-eq0.false v (c.loop-i.invariant.3 v).0 (c.loop-i.invariant.3 v).1 (omega arith) c.in-Err-fill.e c.if-not-changed.false c.in-Err-fill.ensures.1,
 )
 

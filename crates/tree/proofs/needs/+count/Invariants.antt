@@ -8,5 +8,5 @@ abbrev pub decreases-count : goal.decreases-count
 decreases-count g l = l.stretch.order
 
 -- the first i stretches are counted
-abbrev pub invariant_loop_i : goal.invariant_loop_i
-invariant_loop_i g l = (l.changed ≡ any_to l.i (λ j. changes (g.P.Plan.new l.plan) (g.S.BlockStore.blocks l.store) (l.stretch.order - 1) (child (g.S.BlockStore.blocks l.store) l.word j) (l.stretch.at * 16 + j))) × (l.blocks ≡ suc (sum_to l.i (λ j. needed (g.P.Plan.new l.plan) (g.S.BlockStore.blocks l.store) (l.stretch.order - 1) (child (g.S.BlockStore.blocks l.store) l.word j) (l.stretch.at * 16 + j))))
+abbrev pub invariant-loop-i : goal.invariant-loop-i
+invariant-loop-i g l = (l.changed ≡ any_to l.i (λ j. changes (g.P.Plan.new l.plan) (g.S.BlockStore.blocks l.store) (l.stretch.order - 1) (child (g.S.BlockStore.blocks l.store) l.word j) (l.stretch.at * 16 + j))) × (l.blocks ≡ suc (sum_to l.i (λ j. needed (g.P.Plan.new l.plan) (g.S.BlockStore.blocks l.store) (l.stretch.order - 1) (child (g.S.BlockStore.blocks l.store) l.word j) (l.stretch.at * 16 + j))))

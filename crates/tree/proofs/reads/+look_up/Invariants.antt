@@ -1,4 +1,4 @@
 use Rattle.tree.proofs.reads.+look_up.Given as goal
 
-abbrev pub decreases-look-up : goal.decreases-look-up
-decreases-look-up g l = l.order
+abbrev pub decreases-look_up : goal.decreases-look_up
+decreases-look_up g l = l.order

@@ -3,5 +3,5 @@ use native.Mathlib.Nat.{one-le-pow}
 use Prim.Native.Nat.{◌-◌}
 use Rattle.walk.proofs.walks.walk.Goals as goal
 
-pub invariant-of-walk-stretch : goal.invariant-of-walk-stretch
-invariant-of-walk-stretch g c = (c.args.tree.shallow, (one-le-pow (4 - c.args.tree.depth) 16 (omega arith), tt))
+pub invariant_of-walk_stretch : goal.invariant_of-walk_stretch
+invariant_of-walk_stretch g c = (c.args.tree.shallow, (one-le-pow (4 - c.args.tree.depth) 16 (omega arith), tt))

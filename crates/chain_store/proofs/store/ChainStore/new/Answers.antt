@@ -24,15 +24,15 @@ loop-k-preserved c =
       v.3,
     )
 
-pub invariant-of-result : goal.invariant-of-result
-invariant-of-result c =
+pub invariant_of-result : goal.invariant_of-result
+invariant_of-result c =
     let v = c.loop-k.invariant in
     let u = c.clear.new.self in
     let n = c.size-size.result in
     let d = made c.args.words.now c.args.cells.now u.words.now u.cells.now c.loop-k.slab.words.now c.loop-k.slab.cells.now n
     c.clear.ensures.words c.clear.ensures.cells c.size-size.ensures v.0 (λ k l. v.1 k (omega arith)) v.2 v.3 in
     let t = d.threads in
-    (d.fits, (t.inside, (t.unheld, (t.apart, (sym (length_chain c.loop-k.slab.words.now 0 n) ∙ t.counted, tt)))))
+    record { fits = d.fits; inside = t.inside; unheld = t.unheld; apart = t.apart; counted = sym (length_chain c.loop-k.slab.words.now 0 n) ∙ t.counted }
 
 pub returns : goal.returns
 returns c =
@@ -45,6 +45,6 @@ returns c =
       after = d.free;
       stays =
           ap (λ (f : Frame). past f.names c.loop-k.slab.words.now c.loop-k.slab.cells.now) c.clear.ensures.stays
-          ∙ d.past (c.args.words.name ∷ c.args.cells.name ∷ []);
+          ∙ d.past (c.args.words.ghost_name ∷ c.args.cells.ghost_name ∷ []);
       order = d.order;
     }

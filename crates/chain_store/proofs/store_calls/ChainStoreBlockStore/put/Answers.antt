@@ -1,14 +1,14 @@
 use Rattle.std.proofs.Common.{◌≡◌, ℕ, ◌+◌, ◌-◌, ◌*◌, ◌<◌, ◌≤◌, List, [], ◌∷◌, length, get_or, set, sym, refl, ap, ◌∙◌, subst, ap₂, arith}
 use Rattle.block.specs.Blocks.{Blocks, free_count}
-use Rattle.slab.specs.Held as slabs
+use Rattle.block_slab.specs.Held as slabs
 use Rattle.links.specs.Chain.{chain, Threads}
 use Rattle.chain_store.specs.Order.{held, order}
 use Rattle.links.proofs.Links.{length_chain}
 use Rattle.chain_store.proofs.Stores.{threads_of, written_threads, put_chain}
 use Rattle.chain_store.proofs.store_calls.ChainStoreBlockStore.put.Goals as goal
 
-pub invariant-of-self : goal.invariant-of-self
-invariant-of-self c =
+pub invariant_of-self : goal.invariant_of-self
+invariant_of-self c =
     let s = c.args.self.now in
     let told = c.put.ensures in
     let ws = s.slab.words.now in
@@ -19,7 +19,7 @@ invariant-of-self c =
     let t : Threads (chain ws' s.top s.free) (slabs.held c.put.new.self) =
     subst (λ (os : List ℕ). Threads os (slabs.held c.put.new.self)) (sym same)
     (subst (Threads (order s)) (sym told.after) (written_threads (order s) (held s) c.args.b c.args.i c.args.w c.put.result (threads_of s))) in
-    (told.fits s.fits, (t.inside, (t.unheld, (t.apart, (sym (length_chain ws' s.top s.free) ∙ t.counted, tt)))))
+    record { fits = told.fits s.fits; inside = t.inside; unheld = t.unheld; apart = t.apart; counted = sym (length_chain ws' s.top s.free) ∙ t.counted }
 
 pub returns : goal.returns
 returns c =

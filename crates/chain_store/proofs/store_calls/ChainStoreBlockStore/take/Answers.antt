@@ -11,12 +11,12 @@ returns-then-self-eq0 c =
     let s = c.args.self.now in
     record { after = record { why = refl; none = none_left (held s) (sym s.counted ∙ c.if-self-eq0.true); is = refl }; stays = refl; order = refl }
 
-pub invariant-of-self : goal.invariant-of-self
-invariant-of-self c =
+pub invariant_of-self : goal.invariant_of-self
+invariant_of-self c =
     let s = c.args.self.now in
     let p = popped_store s c.linked-self.result c.claim.new.self (omega arith) c.linked-self.ensures c.claim.ensures.after c.claim.ensures.cells in
     let t = p.threads in
-    (c.claim.ensures.fits s.fits, (t.inside, (t.unheld, (t.apart, (sym (length_chain c.claim.new.self.words.now c.linked-self.result (s.free - 1)) ∙ t.counted, tt)))))
+    record { fits = c.claim.ensures.fits s.fits; inside = t.inside; unheld = t.unheld; apart = t.apart; counted = sym (length_chain c.claim.new.self.words.now c.linked-self.result (s.free - 1)) ∙ t.counted }
 
 pub returns : goal.returns
 returns c =

@@ -3,7 +3,7 @@ use lib.Bits.{bit_xor}
 use Rattle.std.proofs.lemmas.Bool.{cases_lt}
 use Rattle.std.proofs.lemmas.List.{get_or-replicate}
 use Rattle.block.specs.Blocks.{Blocks}
-use Rattle.slab.specs.Held.{held}
+use Rattle.block_slab.specs.Held.{held}
 use Rattle.layout.specs.Layout.{room}
 use Rattle.marks.specs.Map.{mark}
 use Rattle.marks.proofs.Marked.{fresh_marks, word_full}
@@ -25,12 +25,14 @@ loop-b-preserved c =
       (λ k l f. let d : k ≢ b = omega arith in t.others k d ∙ v.2 k (omega arith) f),
     )
 
-pub invariant-of-result : goal.invariant-of-result
-invariant-of-result c =
+pub invariant_of-result : goal.invariant_of-result
+invariant_of-result c =
     let v = c.loop-b.invariant in
     let free = c.clear.ensures.after in
     let n = room c.args.words.now c.args.cells.now in
-    let all : c.size-b-end.result ≡ n = c.size-b-end.ensures ∙ ap (λ (m : Blocks). m.size) free in (
-      c.clear.ensures.fits,
-      (v.0, (fresh_marks c.loop-b.map (held c.clear.new.self) n free (λ k l f. v.1 k (omega arith) f) (λ k l f. v.2 k (omega arith) f), ((λ k l _. absurd (omega arith)), tt))),
-    )
+    let all : c.size-b-end.result ≡ n = c.size-b-end.ensures ∙ ap (λ (m : Blocks). m.size) free in record {
+      fits = c.clear.ensures.fits;
+      long = v.0;
+      marks = fresh_marks c.loop-b.map (held c.clear.new.self) n free (λ k l f. v.1 k (omega arith) f) (λ k l f. v.2 k (omega arith) f);
+      full = λ k l _. absurd (omega arith);
+    }

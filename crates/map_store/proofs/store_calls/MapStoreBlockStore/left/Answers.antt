@@ -1,5 +1,5 @@
 use Rattle.std.proofs.Common.{◌≡◌, arith}
-use Rattle.slab.specs.Held.{held}
+use Rattle.block_slab.specs.Held.{held}
 use Rattle.marks.proofs.Marked.{ones_told}
 use Rattle.map_store.proofs.store_calls.MapStoreBlockStore.left.Goals as goal
 

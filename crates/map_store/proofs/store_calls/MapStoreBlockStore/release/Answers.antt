@@ -1,7 +1,7 @@
 use Rattle.std.proofs.Common.{◌≡◌, ℕ, ◌*◌, ◌/◌, ◌<◌, ◌≤◌, min, true, ◌≢◌, Ok, sym, refl, ap, ◌∙◌, subst, arith}
 use Rattle.block.specs.Blocks.{Blocks}
 use Rattle.block.proofs.Wholes.{out_below}
-use Rattle.slab.specs.Held.{held}
+use Rattle.block_slab.specs.Held.{held}
 use Rattle.layout.specs.Layout.{release_tells}
 use Rattle.layout.proofs.Places.{freed}
 use Rattle.layout.proofs.Wholes.{laid_whole}
@@ -9,22 +9,18 @@ use Rattle.marks.specs.Map.{mark, Marks}
 use Rattle.marks.proofs.Marked.{freed_marks}
 use Rattle.map_store.proofs.store_calls.MapStoreBlockStore.release.Goals as goal
 
-pub invariant-of-self-then-branch : goal.invariant-of-self-then-branch
-invariant-of-self-then-branch c =
+pub invariant_of-self-then-branch : goal.invariant_of-self-then-branch
+invariant_of-self-then-branch c =
     let s = c.args.self.now in
     let b = c.args.b in
     let m : Blocks = held s.slab in
-    let told = c.in-ok-release.ensures in
+    let told = c.in_ok-release.ensures in
     let t = c.turn.ensures in
     let last : m.holders b ≡ 1 = freed m b (ap Ok (sym c.if-branch.true) ∙ told.answer) in
     let below : b < m.size = out_below m b (laid_whole s.slab.words.now s.slab.cells.now s.fits) (omega arith) in
-    let few : b < 16384 = omega arith in (
-      told.fits s.fits,
-      (
-        t.long,
-        (
-          subst (Marks c.turn.new.map) (sym told.after) (freed_marks s.map c.turn.new.map m b s.marks few (t.turned few) t.others below last),
-          ((λ k l f. let d : k ≢ b = omega arith in t.others k d ∙ s.full k (omega arith) f), tt),
-        ),
-      ),
-    )
+    let few : b < 16384 = omega arith in record {
+      fits = told.fits s.fits;
+      long = t.long;
+      marks = subst (Marks c.turn.new.map) (sym told.after) (freed_marks s.map c.turn.new.map m b s.marks few (t.turned few) t.others below last);
+      full = λ k l f. let d : k ≢ b = omega arith in t.others k d ∙ s.full k (omega arith) f;
+    }

@@ -6,8 +6,8 @@ use Rattle.ring_store.proofs.store.RingStore.new.Goals as goal
 zeros : (k : ℕ) → k < 128 → ◌≡◌ {A = ℕ} (get_or (replicate 128 0) k 0) 0
 zeros k l = get_or-replicate 128 k 0 0 l
 
-pub invariant-of-result : goal.invariant-of-result
-invariant-of-result c = (refl, (refl, (omega arith, (free_fits (replicate 2048 0) (replicate 128 0) (replicate 128 0) refl zeros, tt))))
+pub invariant_of-result : goal.invariant_of-result
+invariant_of-result c = record { full = refl; all = refl; near = omega arith; fits = free_fits (replicate 2048 0) (replicate 128 0) (replicate 128 0) refl zeros }
 
 pub returns : goal.returns
 returns c = record { after = laid_free (replicate 2048 0) (replicate 128 0) (replicate 128 0) refl zeros; last = refl }

@@ -7,11 +7,11 @@ returns-in-Ok g c =
     let t = c.args.part.ten in
     let l : c.args.part.number < 16 = omega arith in
     let f = c.in-Ok.ensures in
-    (f.0, root_filled _ _ c.args.self.word c.args.part.number c.args.new.top (c.in-Ok.word - 1) c.words-of-words.result (g.S.BlockStore.whole c.args.store.now) c.words-of-words.ensures l f.1)
+    (f.0, root_filled _ _ c.args.self.word c.args.part.number c.args.new.top (c.in-Ok.word - 1) c.words_of-words.result (g.S.BlockStore.whole c.args.store.now) c.words_of-words.ensures l f.1)
 
 pub returns-in-Err : goal.returns-in-Err
 returns-in-Err g c =
     let t = c.args.part.ten in
     let l : c.args.part.number < 16 = omega arith in
     let f = c.in-Err.ensures in
-    (f.0, root_blocked _ c.args.self.word c.args.part.number c.args.new.top c.words-of-words.result c.in-Err.e (g.S.BlockStore.whole c.args.store.now) c.words-of-words.ensures l f.1)
+    (f.0, root_blocked _ c.args.self.word c.args.part.number c.args.new.top c.words_of-words.result c.in-Err.e (g.S.BlockStore.whole c.args.store.now) c.words_of-words.ensures l f.1)

@@ -2,5 +2,5 @@ use Rattle.std.proofs.Common.{◌≡◌, take}
 use Rattle.table.specs.Tables.{last_under}
 use Rattle.table.proofs.tables.Table.last_child.Given as goal
 
-abbrev pub invariant_loop_i : goal.invariant_loop_i
-invariant_loop_i l = l.found ≡ last_under l.self.snapshots l.number (take l.i l.self.order)
+abbrev pub invariant-loop-i : goal.invariant-loop-i
+invariant-loop-i l = l.found ≡ last_under l.self.snapshots l.number (take l.i l.self.order)

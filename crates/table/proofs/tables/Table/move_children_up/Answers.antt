@@ -6,14 +6,14 @@ use Rattle.table.proofs.tables.Table.move_children_up.Goals as goal
 pub loop-snapshot-init : goal.loop-snapshot-init
 loop-snapshot-init c = refl
 
-pub invariant-of-self : goal.invariant-of-self
-invariant-of-self c =
+pub invariant_of-self : goal.invariant_of-self
+invariant_of-self c =
     (omega (arith, same_length (moved_up c.args.number c.args.parent) c.args.self.now.snapshots c.loop-snapshot.snapshot-items c.loop-snapshot.snapshot-index c.loop-snapshot.invariant), (c.args.self.now.listed, (c.args.self.now.few, tt)))
 
 pub loop-snapshot-preserved : goal.loop-snapshot-preserved
 loop-snapshot-preserved c =
     mapped_more (moved_up c.args.number c.args.parent) c.args.self.now.snapshots c.loop-snapshot.snapshot-items c.loop-snapshot.snapshot-index vacant _
-    (omega (arith, same_length (moved_up c.args.number c.args.parent) c.args.self.now.snapshots c.loop-snapshot.snapshot-items c.loop-snapshot.snapshot-index c.loop-snapshot.invariant)) c.loop-snapshot.invariant c.move-up.ensures.after
+    (omega (arith, same_length (moved_up c.args.number c.args.parent) c.args.self.now.snapshots c.loop-snapshot.snapshot-items c.loop-snapshot.snapshot-index c.loop-snapshot.invariant)) c.loop-snapshot.invariant c.move_up.ensures.after
 
 pub returns : goal.returns
 returns c = record {

@@ -3,11 +3,11 @@ use Rattle.std.proofs.lemmas.Bool.Decides.{nat_tests}
 use Rattle.block.specs.Blocks.{spare, sum_to, free_count}
 use Rattle.block.proofs.Sums.{sum_zero, sum_more, sum_same}
 use Rattle.layout.specs.Layout.{room, held_in}
-use Rattle.slab.proofs.reads.left.Goals as goal
-use Rattle.slab.proofs.reads.left.Goals.{then-cells-k-eq0, else-cells-k-eq0}
+use Rattle.block_slab.proofs.reads.left.Goals as goal
+use Rattle.block_slab.proofs.reads.left.Goals.{then-cells-k-eq0, else-cells-k-eq0}
 
-pub overflow-add-free : goal.overflow-add-free
-overflow-add-free c = omega arith
+pub overflow_add-free : goal.overflow_add-free
+overflow_add-free c = omega arith
 
 pub loop-k-init : goal.loop-k-init
 loop-k-init c = (sym (sum_zero (λ b. spare (get_or c.args.cells.now b 0))), omega arith)

@@ -5,7 +5,7 @@ use Rattle.layout.specs.Layout.{room, laid, Fits}
 use Rattle.layout.proofs.Layouts.{after_claim}
 use Rattle.layout.proofs.Fitting.{fits_taken}
 use Rattle.layout.proofs.Makings.{claimed, claimed_past}
-use Rattle.slab.proofs.memory.Slab.claim.Goals as goal
+use Rattle.block_slab.proofs.memory.Slab.claim.Goals as goal
 
 pub returns-then-k-size : goal.returns-then-k-size
 returns-then-k-size c =
@@ -13,12 +13,12 @@ returns-then-k-size c =
     let hs = c.args.self.now.cells.now in
     let b = c.args.b in
     let below : b < room ws hs = omega arith in
-    let zeros = c.copy-from-slice.ensures.after in
-    let cells = claimed ws hs c.copy-from-slice.new.self b below zeros in
+    let zeros = c.copy_from_slice.ensures.after in
+    let cells = claimed ws hs c.copy_from_slice.new.self b below zeros in
     let after = after_claim ws hs b below _ _ cells in
     record {
       after = after ∙ sym (cond-true _ (taken (laid ws hs) b) (laid ws hs) (lt-ltb b (room ws hs) below));
-      stays = claimed_past ws hs c.copy-from-slice.new.self b below zeros _;
+      stays = claimed_past ws hs c.copy_from_slice.new.self b below zeros _;
       fits = λ f. subst Fits (sym after) (fits_taken (laid ws hs) b f);
       cells = cells;
     }

@@ -5,7 +5,7 @@
 use Rattle.std.specs.Prelude.{[], ◌∷◌}
 use Rattle.block.specs.Blocks.{Blocks, Frame}
 use Rattle.layout.specs.Layout.{laid, past}
-use Rattle.slab.specs.declared.memory.Slab.{Slab}
+use Rattle.block_slab.specs.declared.memory.Slab.{Slab}
 
 abbrev pub held : Slab → Blocks
 held s = laid s.words.now s.cells.now

@@ -2,7 +2,7 @@ use Rattle.std.proofs.Common.{◌≡◌, ℕ, ◌*◌, ◌<◌, set, sym, refl, 
 use Rattle.std.proofs.lemmas.Bool.{lt-ltb, cond-true}
 use Rattle.layout.specs.Layout.{room}
 use Rattle.layout.proofs.Layouts.{after_link, past_set_word}
-use Rattle.slab.proofs.memory.Slab.link.Goals as goal
+use Rattle.block_slab.proofs.memory.Slab.link.Goals as goal
 
 pub returns-then-k-size : goal.returns-then-k-size
 returns-then-k-size c =

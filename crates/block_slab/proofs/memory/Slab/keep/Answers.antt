@@ -3,7 +3,7 @@ use Rattle.block.proofs.Answered.{holders_told, keep_ok}
 use Rattle.layout.specs.Layout.{Fits, laid, past}
 use Rattle.layout.proofs.Layouts.{after_keep, cell_held, past_set_cell}
 use Rattle.layout.proofs.Fitting.{fits_kept}
-use Rattle.slab.proofs.memory.Slab.keep.Goals as goal
+use Rattle.block_slab.proofs.memory.Slab.keep.Goals as goal
 
 pub returns : goal.returns
 returns c =
@@ -11,9 +11,9 @@ returns c =
     let hs = c.args.self.now.cells.now in
     let b = c.args.b in
     let m = laid ws hs in
-    let told = holders_told m b c.in-ok-held.held c.in-ok-held.ensures in
+    let told = holders_told m b c.in_ok-held.held c.in_ok-held.ensures in
     let out = cell_held ws hs b told.0 in
-    let one : c.in-ok-held.held + 1 ≡ get_or hs b 0 + 1 = ap (λ (x : ℕ). x + 1) (told.1 ∙ out.1) in
+    let one : c.in_ok-held.held + 1 ≡ get_or hs b 0 + 1 = ap (λ (x : ℕ). x + 1) (told.1 ∙ out.1) in
     let few : m.holders b < 65535 = omega (arith, told.1) in
     let after = ap (λ (x : ℕ). laid ws (set hs b x)) one ∙ after_keep ws hs b out.0 (omega (arith, told.0, out.1)) in
     record {

@@ -4,7 +4,7 @@ use Rattle.layout.specs.Layout.{Fits, laid, past}
 use Rattle.layout.proofs.Layouts.{after_put, cell_held, past_set_word}
 use Rattle.layout.proofs.Fitting.{fits_written}
 use Rattle.layout.proofs.Places.{placed}
-use Rattle.slab.proofs.memory.Slab.put.Goals as goal
+use Rattle.block_slab.proofs.memory.Slab.put.Goals as goal
 
 pub returns : goal.returns
 returns c =
@@ -14,7 +14,7 @@ returns c =
     let i = c.args.i in
     let w = c.args.w in
     let m = laid ws hs in
-    let told = placed m b i c.in-ok-k.k c.in-ok-k.ensures in
+    let told = placed m b i c.in_ok-k.k c.in_ok-k.ensures in
     let out = cell_held ws hs b told.0 in
     let after = ap (λ (x : ℕ). laid (set ws x w) hs) told.2 ∙ after_put ws hs b out.0 i w told.1 (omega (arith, told.0, out.1)) in
     record {

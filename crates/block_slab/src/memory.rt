@@ -2,7 +2,7 @@
 ghost use Rattle.std.specs.Prelude.{◌≡◌, ◌*◌, if◌then◌else◌, nat_lt, slice_index};
 ghost use Rattle.block.specs.Blocks.{free_count};
 ghost use Rattle.block.specs.Calls.{get_answer, holders_answer};
-ghost use Rattle.slab.specs.Held.{held};
+ghost use Rattle.block_slab.specs.Held.{held};
 ghost use Rattle.layout.specs.Layout.{place_answer};
 
 use crate::reads;

@@ -3,7 +3,7 @@ ghost use Rattle.std.specs.Prelude.{◌≡◌, ◌+◌, ◌-◌, ◌*◌, is_ok,
 ghost use Rattle.block.specs.Blocks.{all_free};
 ghost use Rattle.block.specs.Calls.{keep_answer, kept, put_answer, released, taken, written};
 ghost use Rattle.layout.specs.Layout.{Claimed, Cleared, Fits, release_tells};
-ghost use Rattle.slab.specs.Held.{held, stands_on};
+ghost use Rattle.block_slab.specs.Held.{held, stands_on};
 
 use crate::memory::Slab;
 use block::Refusal;

@@ -4,7 +4,7 @@ use Rattle.std.proofs.lemmas.List.{get_or-set_same, get_or-set_other, length-set
 use Rattle.layout.specs.Layout.{room, laid, past, Fits}
 use Rattle.layout.proofs.Layouts.{past_same}
 use Rattle.layout.proofs.Makings.{laid_free, free_fits}
-use Rattle.slab.proofs.memory.Slab.clear.Goals as goal
+use Rattle.block_slab.proofs.memory.Slab.clear.Goals as goal
 
 pub loop-k-preserved : goal.loop-k-preserved
 loop-k-preserved c =
@@ -28,7 +28,7 @@ returns c =
     let hs' = c.loop-k.self.cells.now in
     let zeros : (j : ℕ) → j < room ws hs → get_or hs' j 0 ≡ 0 = λ j l. v.1 j (omega arith) in
     let same = v.3 in
-    let names : List GName = c.args.self.now.words.name ∷ c.args.self.now.cells.name ∷ [] in
+    let names : List GName = c.args.self.now.words.ghost_name ∷ c.args.self.now.cells.ghost_name ∷ [] in
     record {
       after = ap (λ (x : List ℕ). laid x hs') same ∙ laid_free ws hs hs' v.0 zeros;
       stays =
