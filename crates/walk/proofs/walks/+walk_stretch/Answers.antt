@@ -14,7 +14,7 @@ overflow_add-part g t c = omega (arith, at_fits c.args.stretch.at c.args.stretch
 pub invariant_of-part : goal.invariant_of-part
 invariant_of-part g t c =
     let h = c.args.stretch.shallow in
-    (omega arith, (at_child c.args.stretch.at c.args.stretch.order c.loop-i.i c.args.stretch.within c.if-stretch-eq0.false c.args.stretch.shallow c.loop-i-test.true, tt))
+    record { shallow = omega arith; within = at_child c.args.stretch.at c.args.stretch.order c.loop-i.i c.args.stretch.within c.if-stretch-eq0.false c.args.stretch.shallow c.loop-i-test.true }
 
 pub returns-then-word-eq0 : goal.returns-then-word-eq0
 returns-then-word-eq0 g t c = rw c.if-word-eq0.true (sym (walk_blank (g.R.Region.has c.args.region.now) g.V.Visitor.step (g.S.BlockStore.blocks c.args.store.now) c.args.stretch.order c.args.stretch.at c.args.visitor.now g.V.Visitor.blank))

@@ -7,7 +7,7 @@ use Rattle.root.proofs.roots.Root.edit.Goals as goal
 
 pub returns-in_err-rebuilt : goal.returns-in_err-rebuilt
 returns-in_err-rebuilt g c =
-    let p = err_from_is_err_and c.from-residual.result c.from-residual.ensures.1 in
+    let p = err_from_is_err_and c.from_residual.result c.from_residual.ensures.1 in
     rw (p.1, p.2) (λ s. edit_short _ _ _ c.args.self.word c.args.part.number c.tree.result.depth c.tree.result.top s c.tree.ensures.depth c.tree.ensures.top _ c.in_err-rebuilt.ensures)
 
 pub returns-in_default : goal.returns-in_default

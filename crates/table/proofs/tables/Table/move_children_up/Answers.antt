@@ -7,8 +7,11 @@ pub loop-snapshot-init : goal.loop-snapshot-init
 loop-snapshot-init c = refl
 
 pub invariant_of-self : goal.invariant_of-self
-invariant_of-self c =
-    (omega (arith, same_length (moved_up c.args.number c.args.parent) c.args.self.now.snapshots c.loop-snapshot.snapshot-items c.loop-snapshot.snapshot-index c.loop-snapshot.invariant), (c.args.self.now.listed, (c.args.self.now.few, tt)))
+invariant_of-self c = record {
+  full = omega (arith, same_length (moved_up c.args.number c.args.parent) c.args.self.now.snapshots c.loop-snapshot.snapshot-items c.loop-snapshot.snapshot-index c.loop-snapshot.invariant);
+  listed = c.args.self.now.listed;
+  few = c.args.self.now.few;
+}
 
 pub loop-snapshot-preserved : goal.loop-snapshot-preserved
 loop-snapshot-preserved c =
