@@ -1,8 +1,7 @@
 -- What an answer tells of the grounds on which it could have been refused.
-use Rattle.std.proofs.Common.{◌≡◌, ℕ, ◌<◌, ◌≤◌, Bool, true, false, eqb, ltb, leb, Ok, Err, Result, sym, refl, ap, ◌∙◌, arith}
+use Rattle.std.proofs.Common.{◌≡◌, ℕ, ◌<◌, Bool, true, false, ltb, leb, Ok, Result, refl, ◌∙◌, arith}
 use Rattle.std.proofs.lemmas.Bool.Decides.{nat_tests}
 use Rattle.block.specs.declared.refusals.Refusal.{Refusal}
-use Rattle.block.specs.Refusals.{refusal}
 use Rattle.block.specs.Blocks.{Blocks, is_free}
 use Rattle.block.specs.Calls.{refused_if, get_answer, put_answer, keep_answer, release_answer, holders_answer}
 

@@ -1,10 +1,8 @@
 -- The theorems on the meaning of a store, put together.
-use Rattle.std.proofs.Common.{◌≡◌, ℕ, ◌≢◌, refl, arith}
+use Rattle.std.proofs.Common.{refl, arith}
 use Rattle.std.proofs.lemmas.Bool.Decides.{nat_tests}
 use Rattle.block.specs.declared.refusals.Refusal.TheVariants.{NoneFree, NotOut, TooMany, NoWord}
-use Rattle.block.specs.Blocks.{Blocks}
-use Rattle.block.specs.Calls.{written, kept, released, taken}
-use Rattle.block.specs.Laws.{NumbersTell, SameAt, OnlyNamed, FreeCounted, CallsKeepWhole}
+use Rattle.block.specs.Laws.{NumbersTell, OnlyNamed, FreeCounted, CallsKeepWhole}
 use Rattle.block.proofs.Counts.{count_written, count_kept, count_released, count_freed, count_taken, none_left, all_out}
 use Rattle.block.proofs.Wholes.{written_whole, kept_whole, released_whole, taken_whole}
 

@@ -1,5 +1,5 @@
 -- A store's chain, by what its slab answered.
-use Rattle.std.proofs.Common.{◌≡◌, ℕ, suc, ◌+◌, ◌-◌, ◌*◌, ◌<◌, ◌≤◌, Bool, true, false, cond, eqb, ltb, leb, ◌≢◌, List, [], ◌∷◌, length, get_or, set, is_ok, Ok, Err, Result, sym, refl, ap, ◌∙◌, subst, arith}
+use Rattle.std.proofs.Common.{◌≡◌, ℕ, suc, ◌+◌, ◌-◌, ◌*◌, ◌<◌, true, cond, ltb, leb, List, ◌∷◌, length, get_or, set, is_ok, Ok, Err, Result, sym, refl, ap, ◌∙◌, subst, arith}
 use Rattle.std.proofs.lemmas.List.{get_or-set_same}
 use Rattle.std.proofs.lemmas.Bool.{lt-ltb, cond-true}
 use Rattle.std.proofs.lemmas.Bool.Decides.{nat_tests}
@@ -13,7 +13,7 @@ use Rattle.layout.specs.Layout.{Claimed}
 use Rattle.block_slab.specs.declared.memory.Slab.{Slab}
 use Rattle.layout.proofs.Layouts.{room_words}
 use Rattle.layout.proofs.Wholes.{laid_whole}
-use Rattle.links.specs.Chain.{chain, Inside, Unheld, Apart, Threads}
+use Rattle.links.specs.Chain.{chain, Unheld, Threads}
 use Rattle.chain_store.specs.Order.{held, order}
 use Rattle.chain_store.specs.declared.store.ChainStore.{ChainStore}
 use Rattle.links.proofs.Links.{length_chain, chain_more, chain_first, chain_set, chain_claimed}

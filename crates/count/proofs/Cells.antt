@@ -1,10 +1,10 @@
 -- A stretch changes where one of its cells does.
-use Rattle.std.proofs.Common.{◌≡◌, ℕ, zero, suc, ◌+◌, ◌-◌, ◌*◌, ◌/◌, ◌%◌, ◌^◌, ◌<◌, ◌≤◌, Bool, true, false, cond, not, ◌||◌, eqb, ◌≢◌, List, [], ◌∷◌, ◌++◌, sym, refl, ap, ◌∙◌, subst, mul_assoc, suc-mul, mul_comm, add-mul, pow-suc, arith}
+use Rattle.std.proofs.Common.{◌≡◌, ℕ, zero, suc, ◌+◌, ◌-◌, ◌*◌, ◌/◌, ◌%◌, ◌^◌, ◌<◌, ◌≤◌, Bool, true, false, ◌||◌, List, [], ◌∷◌, ◌++◌, sym, refl, ap, ◌∙◌, mul_assoc, suc-mul, mul_comm, add-mul, pow-suc, arith}
 use native.Mathlib.Nat.{div-div-eq-div-mul}
 use Rattle.block.specs.Blocks.{Blocks}
 use Rattle.forest.proofs.Digits.{power_suc}
 use Rattle.forest.specs.Trees.{child, look, digits, lookup}
-use Rattle.forest.specs.Balance.{Label, root, node}
+use Rattle.forest.specs.Balance.{node}
 use Rattle.forest.specs.Plans.{any_to, differs, changes}
 use Rattle.count.specs.Paths.{down, path}
 use Rattle.count.proofs.Needs.{down_first}

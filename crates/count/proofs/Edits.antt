@@ -1,5 +1,5 @@
 -- A new snapshot: one tree of the head is rebuilt, and a root block is filled with it and the head's other trees.
-use Rattle.std.proofs.Common.{◌≡◌, ℕ, zero, suc, ◌+◌, ◌-◌, ◌*◌, ◌/◌, ◌%◌, ◌^◌, ◌<◌, ◌≤◌, Bool, true, false, cond, eqb, ◌≢◌, sym, refl, ap, ◌∙◌, subst, pow-suc, arith, eq-eqb, ne_eqb}
+use Rattle.std.proofs.Common.{◌≡◌, ℕ, zero, suc, ◌+◌, ◌-◌, ◌*◌, ◌/◌, ◌%◌, ◌^◌, ◌<◌, ◌≤◌, Bool, false, cond, ◌≢◌, sym, refl, ap, ◌∙◌, subst, pow-suc, arith, eq-eqb, ne_eqb}
 use native.Mathlib.Decide.{ℕ_discrete, dec_lt}
 use Rattle.block.specs.Blocks.{Blocks, Whole, sum_to}
 use Rattle.forest.specs.Trees.{child}
@@ -7,10 +7,10 @@ use Rattle.forest.specs.Balance.{hit, hold, Label, root, node, below, leads, Poi
 use Rattle.forest.specs.Plans.{changes}
 use Rattle.forest.specs.Rebuilds.{Shape}
 use Rattle.forest.specs.Fills.{Filled}
-use Rattle.forest.specs.Frames.{Grown, Live}
+use Rattle.forest.specs.Frames.{Grown}
 use Rattle.forest.specs.Promises.{Rebuilt}
 use Rattle.block.proofs.Sums.{sum_at}
-use Rattle.forest.proofs.Balances.{hit_zero, hit_self, hit_there, hit_pointer, leads_pointer, recount}
+use Rattle.forest.proofs.Balances.{hit_zero, hit_there, hit_pointer, leads_pointer, recount}
 use Rattle.forest.proofs.Frames.{out_below}
 use Rattle.forest.proofs.Rebuilds.{placed, placed_here, placed_else, points_zero, points_stay, live_out, fill_balance, grown_then}
 use Rattle.forest.proofs.Counts.{shape_grown, grown_filled}

@@ -1,21 +1,20 @@
 -- A snapshot is forgotten: its root block and its trees are let go.
-use Rattle.std.proofs.Common.{◌≡◌, ℕ, zero, suc, ◌+◌, ◌-◌, ◌*◌, ◌<◌, ◌≤◌, Bool, true, false, cond, ◌≢◌, sym, refl, ap, ◌∙◌, subst, arith}
-use native.Mathlib.Decide.{ℕ_discrete, dec_lt}
-use Rattle.block.specs.Blocks.{Blocks, Whole, sum_to}
-use Rattle.block.specs.Calls.{released}
-use Rattle.forest.specs.Trees.{child, let_go}
+use Rattle.std.proofs.Common.{◌≡◌, ℕ, zero, suc, ◌+◌, ◌-◌, ◌<◌, ◌≤◌, sym, refl, ap, ◌∙◌, subst, arith}
+use native.Mathlib.Decide.{ℕ_discrete}
+use Rattle.block.specs.Blocks.{Blocks, sum_to}
+use Rattle.forest.specs.Trees.{child}
 use Rattle.forest.specs.Balance.{hit, hold, Label, root, node, below, leads, from, Points, Balanced}
 use Rattle.forest.specs.Frames.{Fewer}
 use Rattle.block.proofs.Sums.{sum_at, sum_none, at_most_sum}
 use Rattle.forest.proofs.Sums.{sum_front}
-use Rattle.forest.proofs.Balances.{hit_zero, hit_self, hit_there, hit_pointer, recount, go_last, lets_go}
+use Rattle.forest.proofs.Balances.{hit_zero, hit_there, hit_pointer, recount, go_last, lets_go}
 use Rattle.forest.proofs.Frames.{fewer_go, fewer_then, fewer_released}
 use Rattle.forest.proofs.Rebuilds.{points_zero}
 use Rattle.forest.proofs.Reaches.{from_some}
-use Rattle.count.specs.Paths.{down, path, held_by, Stands}
+use Rattle.count.specs.Paths.{held_by, Stands}
 use Rattle.count.specs.Steps.{put, gone, Keeps}
 use Rattle.count.proofs.Sums.{sum_among}
-use Rattle.count.proofs.Founds.{Sits, sits_root}
+use Rattle.count.proofs.Founds.{sits_root}
 use Rattle.count.proofs.Keeps.{put_here, put_else, child_keeps}
 
 pub fewer_gone : (deep : ℕ → ℕ) (m : Blocks) (b i : ℕ) → Fewer m (gone deep m b i)

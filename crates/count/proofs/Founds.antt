@@ -1,9 +1,9 @@
 -- The blocks that are out are those on the paths of the snapshots.
-use Rattle.std.proofs.Common.{◌≡◌, ℕ, zero, suc, ◌+◌, ◌-◌, ◌*◌, ◌/◌, ◌%◌, ◌^◌, ◌<◌, ◌≤◌, Bool, true, false, cond, ◌≢◌, sym, refl, ap, ◌∙◌, subst, pow-suc, arith}
-use native.Mathlib.Decide.{ℕ_discrete, dec_lt}
-use Rattle.block.specs.Blocks.{Blocks, Whole, sum_to}
+use Rattle.std.proofs.Common.{◌≡◌, ℕ, zero, suc, ◌+◌, ◌-◌, ◌*◌, ◌/◌, ◌%◌, ◌^◌, ◌<◌, ◌≤◌, ◌≢◌, sym, refl, ap, ◌∙◌, subst, pow-suc, arith}
+use native.Mathlib.Decide.{ℕ_discrete}
+use Rattle.block.specs.Blocks.{Blocks, sum_to}
 use Rattle.forest.specs.Trees.{child}
-use Rattle.forest.specs.Balance.{hit, Label, root, node, below, leads, from, Points, Balanced}
+use Rattle.forest.specs.Balance.{hit, Label, root, node, below, leads}
 use Rattle.block.proofs.Sums.{at_most_sum}
 use Rattle.forest.proofs.Sums.{some_part}
 use Rattle.count.specs.Paths.{down, path, held_by, Stands}

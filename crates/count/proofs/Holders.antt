@@ -1,7 +1,7 @@
 -- No block has more holders than are outside and blocks are out.
-use Rattle.std.proofs.Common.{◌≡◌, ℕ, zero, suc, ◌+◌, ◌-◌, ◌*◌, ◌<◌, ◌≤◌, Bool, true, false, cond, ◌≢◌, sym, refl, ap, ◌∙◌, subst, arith}
-use Rattle.block.specs.Blocks.{Blocks, Whole, sum_to}
-use Rattle.forest.specs.Balance.{hit, Label, root, node, Points, Balanced}
+use Rattle.std.proofs.Common.{ℕ, ◌<◌, ◌≤◌, arith}
+use Rattle.block.specs.Blocks.{Blocks}
+use Rattle.forest.specs.Balance.{hit, Label, root, node, Points}
 use Rattle.forest.proofs.Balances.{leads_one}
 use Rattle.forest.proofs.Reaches.{few_holders}
 use Rattle.forest.specs.Rebuilds.{Why}

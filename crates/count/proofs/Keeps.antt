@@ -1,13 +1,13 @@
 -- The ties of paths and history are kept.
-use Rattle.std.proofs.Common.{◌≡◌, ℕ, zero, suc, ◌+◌, ◌-◌, ◌*◌, ◌/◌, ◌%◌, ◌<◌, ◌≤◌, Bool, true, false, cond, eqb, ◌≢◌, ◌↔◌, sym, refl, ap, ◌∙◌, subst, arith, eq-eqb, ne_eqb}
-use native.Mathlib.Decide.{ℕ_discrete, dec_lt}
-use Rattle.forest.specs.Balance.{Label, root, node, leads, Balanced}
+use Rattle.std.proofs.Common.{◌≡◌, ℕ, zero, suc, ◌-◌, ◌/◌, ◌%◌, ◌<◌, ◌≤◌, Bool, true, false, cond, ◌≢◌, ◌↔◌, sym, refl, ap, ◌∙◌, arith, eq-eqb, ne_eqb}
+use native.Mathlib.Decide.{ℕ_discrete}
+use Rattle.forest.specs.Balance.{Label, root, node}
 use Rattle.block.specs.Blocks.{Blocks}
 use Rattle.forest.specs.Trees.{child}
-use Rattle.count.specs.Paths.{down, path, held_by, Stands}
+use Rattle.count.specs.Paths.{down, path, Stands}
 use Rattle.count.specs.Tally.{Last, Alike, Tied}
 use Rattle.count.specs.Steps.{put, edited, forgotten, Later, Keeps, Renewed}
-use Rattle.count.proofs.Founds.{Sits, sits_root, sits_down}
+use Rattle.count.proofs.Founds.{sits_root, sits_down}
 
 pub put_here : {X : Type 0} (x : ℕ) (u : X) (f : ℕ → X) (s : ℕ) → s ≡ x → put x u f s ≡ u
 put_here x u f s e = ap (λ t. cond t u (f s)) (eq-eqb s x e)

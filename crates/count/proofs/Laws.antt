@@ -1,16 +1,16 @@
 -- The theorems on balanced stores and tables, put together.
-use Rattle.std.proofs.Common.{◌≡◌, ℕ, zero, suc, ◌+◌, ◌-◌, ◌*◌, ◌^◌, ◌<◌, ◌≤◌, Bool, true, false, cond, leb, ◌≢◌, Ok, sym, refl, ap, ◌∙◌, subst, mul-le-mul_right, suc-mul, arith, pow-add, ne_eqb}
+use Rattle.std.proofs.Common.{◌≡◌, ℕ, suc, ◌+◌, ◌-◌, ◌*◌, ◌^◌, ◌<◌, ◌≤◌, leb, Ok, sym, ap, ◌∙◌, subst, mul-le-mul_right, suc-mul, arith, pow-add, ne_eqb}
 use borrow.Author.Tests.{lt-leb}
-use Rattle.block.specs.Blocks.{Blocks, sum_to}
+use Rattle.block.specs.Blocks.{Blocks}
 use Rattle.block.specs.Calls.{refused_if}
 use Rattle.block.proofs.Sums.{sum_same}
-use Rattle.forest.specs.Trees.{child, lookup}
+use Rattle.forest.specs.Trees.{lookup}
 use Rattle.forest.specs.Balance.{hit, Label}
 use native.Mathlib.Decide.{ℕ_discrete}
 use Rattle.block.proofs.Wholes.{out_below}
 use Rattle.forest.proofs.Sums.{some_part}
 use Rattle.forest.proofs.Balances.{hit_pointer}
-use Rattle.forest.specs.Plans.{any_to, differs, changes, needed}
+use Rattle.forest.specs.Plans.{differs}
 use Rattle.forest.proofs.Reaches.{few_holders, reached, all_free}
 use Rattle.count.specs.Paths.{down, path, held_by, Stands}
 use Rattle.count.specs.Tally.{bit}

@@ -1,15 +1,15 @@
 -- A rebuild needs a block for each stretch that changes.
-use Rattle.std.proofs.Common.{◌≡◌, ℕ, zero, suc, ◌+◌, ◌-◌, ◌*◌, ◌/◌, ◌%◌, ◌^◌, ◌<◌, ◌≤◌, Bool, true, false, cond, ◌≢◌, sym, refl, ap, ◌∙◌, subst, mul_assoc, suc-mul, mul_comm, add-mul, pow-suc, arith}
-use native.Mathlib.Decide.{ℕ_discrete, dec_lt}
+use Rattle.std.proofs.Common.{◌≡◌, ℕ, zero, suc, ◌+◌, ◌-◌, ◌*◌, ◌/◌, ◌%◌, ◌^◌, ◌<◌, Bool, true, false, cond, sym, refl, ap, ◌∙◌, mul_assoc, suc-mul, mul_comm, add-mul, pow-suc, arith}
+use native.Mathlib.Decide.{ℕ_discrete}
 use Rattle.std.proofs.lemmas.Bool.{cond-true, cond-false}
 use Rattle.block.specs.Blocks.{Blocks, sum_to}
 use Rattle.forest.specs.Trees.{child}
-use Rattle.forest.specs.Plans.{any_to, changes, needed}
+use Rattle.forest.specs.Plans.{changes, needed}
 use Rattle.block.proofs.Sums.{sum_same, sum_none}
 use Rattle.forest.proofs.Counts.{needed_changes}
 use Rattle.count.specs.Paths.{down}
 use Rattle.count.specs.Tally.{bit}
-use Rattle.count.proofs.Sums.{sum_add, sum_swap, any_at}
+use Rattle.count.proofs.Sums.{sum_swap, any_at}
 
 -- a sum over a * b numbers, in a parts of b
 sum_parts : (a b : ℕ) (f : ℕ → ℕ) → sum_to (a * b) f ≡ sum_to a (λ j. sum_to b (λ q. f (j * b + q)))

@@ -1,15 +1,15 @@
 -- The count after an edit, from the history: so a store is full just where that count is above its size.
-use Rattle.std.proofs.Common.{◌≡◌, ℕ, zero, suc, ◌+◌, ◌-◌, ◌*◌, ◌/◌, ◌%◌, ◌^◌, ◌<◌, ◌≤◌, Bool, true, false, cond, ◌||◌, eqb, ◌≢◌, ◌↔◌, sym, refl, ap, ◌∙◌, subst, arith, eq-eqb, ne_eqb}
-use native.Mathlib.Decide.{ℕ_discrete, dec_lt}
+use Rattle.std.proofs.Common.{◌≡◌, ℕ, zero, suc, ◌+◌, ◌-◌, ◌/◌, ◌%◌, ◌^◌, ◌<◌, ◌≤◌, Bool, true, false, cond, ◌||◌, eqb, ◌≢◌, ◌↔◌, sym, refl, ap, ◌∙◌, arith, eq-eqb, ne_eqb}
+use native.Mathlib.Decide.{ℕ_discrete}
 use Rattle.std.proofs.lemmas.Bool.{eqb-true}
 use Rattle.block.specs.Blocks.{Blocks, sum_to, free_count, spare}
 use Rattle.forest.specs.Trees.{child}
-use Rattle.forest.specs.Balance.{Label, root, node}
+use Rattle.forest.specs.Balance.{Label, node}
 use Rattle.forest.specs.Plans.{any_to, changes, needed}
 use Rattle.block.proofs.Sums.{sum_same, sum_at, sum_none, at_most_sum}
 use Rattle.count.specs.Uses.{out, used}
-use Rattle.count.specs.Paths.{down, path, held_by, Stands}
-use Rattle.count.specs.Tally.{live, new, distinct, all_stretches, Last, tally, Alike, Tied}
+use Rattle.count.specs.Paths.{down, path, Stands}
+use Rattle.count.specs.Tally.{live, new, distinct, all_stretches, Last, tally, Tied}
 use Rattle.count.specs.Steps.{put, changed_by, edited, Later}
 use Rattle.count.specs.Tally.{bit}
 use Rattle.count.proofs.Sums.{sum_add, sum_only, image, any_some, any_at}

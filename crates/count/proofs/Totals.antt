@@ -1,21 +1,20 @@
 -- As many blocks are out as the history says.
-use Rattle.std.proofs.Common.{◌≡◌, ℕ, zero, suc, ◌+◌, ◌-◌, ◌*◌, ◌/◌, ◌%◌, ◌^◌, ◌<◌, ◌≤◌, Bool, true, false, cond, ◌&&◌, eqb, ◌≢◌, sym, refl, ap, ◌∙◌, subst, arith, eq-eqb, ne_eqb}
-use native.Mathlib.Decide.{ℕ_discrete, dec_lt}
+use Rattle.std.proofs.Common.{◌≡◌, ℕ, zero, suc, ◌+◌, ◌-◌, ◌^◌, ◌<◌, ◌≤◌, Bool, true, false, cond, eqb, ◌≢◌, sym, refl, ap, ◌∙◌, arith, eq-eqb, ne_eqb}
+use native.Mathlib.Decide.{ℕ_discrete}
 use Rattle.std.proofs.lemmas.Bool.Decides.{nat_tests}
 use Rattle.std.proofs.lemmas.Bool.{eqb-true}
-use Rattle.block.specs.Blocks.{Blocks, Whole, sum_to}
-use Rattle.forest.specs.Trees.{child}
-use Rattle.forest.specs.Balance.{hit, Label, root, node, below, leads, from, Points, Balanced}
+use Rattle.block.specs.Blocks.{Blocks, sum_to}
+use Rattle.forest.specs.Balance.{Label, root, node, leads}
 use Rattle.forest.specs.Plans.{any_to}
 use Rattle.block.proofs.Sums.{sum_same, sum_none}
 use Rattle.count.specs.Uses.{out, used}
-use Rattle.count.specs.Paths.{down, path, held_by, Stands}
-use Rattle.count.specs.Tally.{live, new, distinct, all_stretches, Last, tally, Alike, Tied}
+use Rattle.count.specs.Paths.{path, held_by, Stands}
+use Rattle.count.specs.Tally.{live, distinct, all_stretches, Last, tally, Tied}
 use Rattle.count.specs.Tally.{bit}
 use Rattle.count.proofs.Sums.{sum_add, sum_swap, sum_only, image, distinct_alike, distinct_apart, any_some, any_at}
-use Rattle.forest.proofs.Balances.{hit_pointer, hit_there, leads_pointer}
+use Rattle.forest.proofs.Balances.{hit_there, leads_pointer}
 use Rattle.forest.proofs.Frames.{inside}
-use Rattle.count.proofs.Founds.{Within, Found, found, Sits, sits}
+use Rattle.count.proofs.Founds.{Within, found, sits}
 
 -- 1 where the positions are the same
 mark : Label → Label → ℕ

@@ -10,7 +10,7 @@
 --   BlocksCounted      as many blocks are out as there are snapshots and different words at each stretch
 --   CountTheorem       as many blocks are out as the snapshots' last edits say
 --   RoomTold           an edit finds its blocks just where the count after it is at most the size
-use Rattle.std.specs.Prelude.{◌≡◌, ℕ, suc, ◌+◌, ◌-◌, ◌*◌, ◌^◌, ◌<◌, ◌≤◌, Bool, true, false, ◌≢◌, ◌↔◌, Ok}
+use Rattle.std.specs.Prelude.{◌≡◌, ℕ, suc, ◌+◌, ◌-◌, ◌*◌, ◌^◌, ◌<◌, ◌≤◌, Bool, false, ◌≢◌, ◌↔◌, Ok}
 use Rattle.block.specs.Blocks.{Blocks, Whole, sum_to, free_count}
 use Rattle.block.specs.Calls.{keep_answer}
 use Rattle.forest.specs.Trees.{child, lookup}

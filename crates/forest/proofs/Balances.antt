@@ -1,17 +1,17 @@
 -- What the calls of a store do to the balance.
-use Rattle.std.proofs.Common.{◌≡◌, ℕ, zero, suc, ◌+◌, ◌-◌, ◌*◌, ◌<◌, ◌≤◌, Bool, true, false, cond, ◌&&◌, eqb, ltb, leb, ◌≢◌, List, [], ◌∷◌, map, fold, sym, refl, ap, ◌∙◌, subst, arith, le-ltb, lt-ltb, eq-eqb, ne_eqb}
+use Rattle.std.proofs.Common.{◌≡◌, ℕ, zero, suc, ◌+◌, ◌*◌, ◌<◌, ◌≤◌, Bool, true, false, cond, ◌&&◌, eqb, leb, ◌≢◌, List, [], ◌∷◌, map, fold, sym, refl, ap, ◌∙◌, subst, arith, ne_eqb}
 use mathlib.Core.Path.{fun_ext}
 use native.Mathlib.Decide.{ℕ_discrete, dec_lt}
 use Rattle.std.proofs.lemmas.Bool.Decides.{nat_tests}
 use Rattle.std.proofs.lemmas.Bool.{cond_both, eqb-true, eqb-false}
-use Rattle.block.specs.Blocks.{Blocks, Whole, sum_to}
-use Rattle.block.specs.Calls.{released, taken, kept, written}
+use Rattle.block.specs.Blocks.{Blocks, sum_to}
+use Rattle.block.specs.Calls.{released}
 use Rattle.forest.specs.Balance.{hit, hold, Label, root, node, below, leads, from, Points, Balanced}
 use Rattle.forest.specs.Trees.{child, words, let_go}
 use Rattle.forest.proofs.Releases.{released_flat, released_null, released_step}
-use Rattle.std.specs.List.{range_with_len, AllByRecursion as All}
-use Rattle.block.proofs.Sums.{sum_same, sum_at, sum_none, at_most_sum}
-use Rattle.block.proofs.Wholes.{released_whole, out_below}
+use Rattle.std.specs.List.{range_with_len}
+use Rattle.block.proofs.Sums.{sum_same, sum_at, sum_none}
+use Rattle.block.proofs.Wholes.{released_whole}
 
 -- the words of a block and its position alone decide where it points
 pub from_same : (deep : ℕ → ℕ) (m n : Blocks) (label other : ℕ → Label) (b c : ℕ) → label c ≡ other c → ((i : ℕ) → m.word c i ≡ n.word c i) → from deep m label b c ≡ from deep n other b c

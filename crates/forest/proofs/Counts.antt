@@ -1,11 +1,11 @@
 -- A rebuild takes as many blocks as are needed.
-use Rattle.std.proofs.Common.{◌≡◌, ℕ, zero, suc, ◌+◌, ◌-◌, ◌*◌, ◌<◌, ◌≤◌, Bool, true, false, cond, not, ◌||◌, eqb, ◌≢◌, length, get_or, set, sym, refl, ap, ◌∙◌, subst, add-one, arith, below_more}
-use native.Mathlib.Decide.{ℕ_discrete, dec_lt}
+use Rattle.std.proofs.Common.{◌≡◌, ℕ, zero, suc, ◌+◌, ◌-◌, ◌*◌, ◌<◌, ◌≤◌, Bool, true, false, cond, not, ◌||◌, eqb, ◌≢◌, sym, refl, ap, ◌∙◌, subst, add-one, arith, below_more}
+use native.Mathlib.Decide.{ℕ_discrete}
 use Rattle.std.proofs.lemmas.Bool.Decides.{nat_tests}
 use Rattle.std.proofs.lemmas.Bool.{cond-true, cond-false}
 use Rattle.block.specs.Blocks.{Blocks, sum_to, free_count, spare}
 use Rattle.forest.specs.Trees.{child}
-use Rattle.forest.specs.Balance.{hit, hold, Label, node, Points, Balanced}
+use Rattle.forest.specs.Balance.{hold, node, Points}
 use Rattle.forest.specs.Frames.{Grown, Live}
 use Rattle.forest.specs.Fills.{Filled, Blocked}
 use Rattle.forest.specs.Plans.{any_to, changes, needed}
@@ -15,8 +15,8 @@ use Rattle.block.proofs.Counts.{all_out}
 use Rattle.forest.proofs.Sums.{sum_front}
 use Rattle.block.specs.declared.refusals.Refusal.{Refusal}
 use Rattle.block.specs.declared.refusals.Refusal.TheVariants.{NoneFree, NotOut, TooMany, NoWord}
-use Rattle.forest.proofs.Fills.{hold_one, cond_one}
-use Rattle.forest.proofs.Balances.{hit_self, hit_other, hold_pointer}
+use Rattle.forest.proofs.Fills.{hold_one}
+use Rattle.forest.proofs.Balances.{hit_self, hit_other}
 use Rattle.forest.proofs.Rebuilds.{Part, child_grown, live_child, live_out, true_false, live_down, points_child, points_stay}
 use Rattle.forest.proofs.Reaches.{few_holders}
 

@@ -1,9 +1,9 @@
 -- The digits of a cell's number.
-use Rattle.std.proofs.Common.{◌≡◌, ℕ, zero, suc, ◌+◌, ◌-◌, ◌*◌, ◌/◌, ◌%◌, ◌^◌, ◌<◌, ◌≤◌, Bool, List, [], ◌∷◌, length, sym, refl, ap, ◌∙◌, subst, mod-eq_of_lt, mul_assoc, mul_comm, add-mul, pow-suc, arith, pow-add}
+use Rattle.std.proofs.Common.{◌≡◌, ℕ, zero, suc, ◌+◌, ◌*◌, ◌/◌, ◌%◌, ◌^◌, ◌<◌, length, sym, refl, ap, ◌∙◌, subst, mod-eq_of_lt, mul_assoc, mul_comm, add-mul, pow-suc, arith, pow-add}
 use lib.Pow.{mod-pow-add}
 use Rattle.std.specs.List.{AllByRecursion as All}
 use Rattle.block.specs.Blocks.{Blocks}
-use Rattle.forest.specs.Trees.{look, digits, lookup}
+use Rattle.forest.specs.Trees.{digits, lookup}
 use Rattle.forest.specs.Rebuilds.{number, Reads}
 
 pub length_digits : (k i : ℕ) → length (digits k i) ≡ k

@@ -1,15 +1,15 @@
 -- A block is taken and filled.
-use Rattle.std.proofs.Common.{◌≡◌, ℕ, zero, suc, ◌+◌, ◌-◌, ◌<◌, ◌≤◌, Bool, true, false, cond, ◌&&◌, eqb, ltb, leb, ◌≢◌, is_ok, IfOk, Ok, Err, Result, sym, refl, ap, ◌∙◌, subst, add-one, arith, le-ltb, ne_eqb}
+use Rattle.std.proofs.Common.{◌≡◌, ℕ, zero, suc, ◌+◌, ◌-◌, ◌<◌, ◌≤◌, Bool, true, false, cond, ltb, ◌≢◌, is_ok, IfOk, Ok, Err, Result, sym, refl, ap, ◌∙◌, subst, add-one, arith, le-ltb, ne_eqb}
 use mathlib.Core.Path.{fun_ext}
-use native.Mathlib.Decide.{ℕ_discrete, dec_lt}
+use native.Mathlib.Decide.{ℕ_discrete}
 use Rattle.std.proofs.lemmas.Bool.Decides.{nat_tests}
-use Rattle.block.specs.Blocks.{Blocks, Whole, sum_to}
+use Rattle.block.specs.Blocks.{Blocks, sum_to}
 use Rattle.block.specs.Calls.{taken, kept, written, put_answer, refused_if, Picked}
 use Rattle.forest.specs.Balance.{hit, hold}
 use Rattle.forest.specs.Fills.{Filled, Room, held}
 use Rattle.block.specs.declared.refusals.Refusal.{Refusal}
 use Rattle.block.proofs.Sums.{sum_ones}
-use Rattle.forest.proofs.Balances.{hit_zero, hit_self, hit_other, hold_zero}
+use Rattle.forest.proofs.Balances.{hit_self, hit_other}
 
 with_holders : (m : Blocks) (f : ℕ → ℕ) → ((c : ℕ) → m.holders c ≡ f c) → m ≡ record { size = m.size; holders = f; word = m.word }
 with_holders m f h = ap (λ (v : ℕ → ℕ). record { size = m.size; holders = v; word = m.word }) (fun_ext h)

@@ -1,18 +1,15 @@
 -- What stays of a tree when the store changes.
-use Rattle.std.proofs.Common.{◌≡◌, ℕ, zero, suc, ◌+◌, ◌-◌, ◌*◌, ◌<◌, ◌≤◌, Bool, true, false, cond, ◌&&◌, eqb, ltb, leb, ◌≢◌, ◌⊎◌, List, [], ◌∷◌, length, fold, sym, refl, ap, ◌∙◌, subst, inl, inr, arith, lt-ltb}
+use Rattle.std.proofs.Common.{◌≡◌, ℕ, zero, suc, ◌+◌, ◌*◌, ◌<◌, ◌≤◌, eqb, List, [], ◌∷◌, length, fold, sym, refl, ap, ◌∙◌, subst, arith}
 use native.Mathlib.Decide.{ℕ_discrete, dec_lt}
 use Rattle.std.proofs.lemmas.Bool.Decides.{nat_tests}
 use Rattle.std.proofs.lemmas.Bool.{cond_both}
-use Rattle.std.specs.List.{range_with_len}
-use Rattle.block.specs.Blocks.{Blocks, Whole, sum_to}
-use Rattle.block.specs.Calls.{released, taken, kept, written}
-use Rattle.forest.specs.Balance.{hit, hold, Label, root, node, below, leads, from, Points, Balanced}
+use Rattle.block.specs.Blocks.{Blocks}
+use Rattle.block.specs.Calls.{released}
+use Rattle.forest.specs.Balance.{hit, hold, Label, node, below, leads, from, Points, Balanced}
 use Rattle.forest.specs.Frames.{Fewer, Grown, Live}
-use Rattle.forest.specs.Trees.{child, look, words, let_go}
-use Rattle.forest.proofs.Releases.{released_null, released_step}
-use Rattle.forest.proofs.Balances.{hit_self, hit_other, hit_there, leads_pointer}
+use Rattle.forest.specs.Trees.{look, words, let_go}
+use Rattle.forest.proofs.Balances.{hit_there, leads_pointer}
 use Rattle.block.proofs.Sums.{at_most_sum}
-use Rattle.forest.proofs.Sums.{some_part}
 
 pub fewer_none : (m : Blocks) → Fewer m m
 fewer_none m = record { size = refl; held = λ b. omega arith; same = λ b i h. refl }

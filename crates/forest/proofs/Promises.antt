@@ -1,14 +1,13 @@
-use Rattle.std.proofs.Common.{◌≡◌, ℕ, ◌+◌, ◌<◌, ◌≤◌, Bool, true, false, cond, sym, refl, ap, ◌∙◌, subst, arith}
+use Rattle.std.proofs.Common.{◌≡◌, ℕ, ◌<◌, ◌≤◌, Bool, true, false, sym, refl, subst, arith}
 use Rattle.block.specs.Blocks.{Blocks, free_count}
 use Rattle.block.specs.declared.refusals.Refusal.{Refusal}
 use Rattle.block.specs.declared.refusals.Refusal.TheVariants.{NoneFree, NotOut, TooMany, NoWord}
 use Rattle.forest.specs.Plans.{needed}
 use Rattle.forest.specs.Trees.{let_go}
-use Rattle.forest.specs.Balance.{hold, Label, node, Points, Balanced}
-use Rattle.forest.specs.Frames.{Live}
+use Rattle.forest.specs.Balance.{Label, node, Points, Balanced}
 use Rattle.forest.specs.Rebuilds.{Counted, Done, Undone, Why}
 use Rattle.forest.specs.Promises.{Rebuilt, Refused, Released}
-use Rattle.forest.proofs.Balances.{lets_go, recount}
+use Rattle.forest.proofs.Balances.{lets_go}
 use Rattle.forest.proofs.Frames.{look_grown, fewer_released}
 use Rattle.forest.proofs.Digits.{reads_at}
 use Rattle.forest.proofs.Restores.{undone_exact}

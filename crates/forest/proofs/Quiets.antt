@@ -1,10 +1,10 @@
 -- Where a plan changes nothing.
-use Rattle.std.proofs.Common.{◌≡◌, ℕ, zero, suc, ◌+◌, ◌-◌, ◌*◌, ◌/◌, ◌^◌, ◌<◌, ◌≤◌, Bool, true, false, cond, not, ◌||◌, eqb, ◌≢◌, List, [], ◌∷◌, length, sym, refl, ap, ◌∙◌, subst, mul-le-mul_right, mul_assoc, add-mul, arith, eq-eqb, ne_eqb}
+use Rattle.std.proofs.Common.{◌≡◌, ℕ, zero, suc, ◌+◌, ◌*◌, ◌/◌, ◌^◌, ◌<◌, ◌≤◌, Bool, false, not, ◌||◌, ◌≢◌, List, [], ◌∷◌, length, sym, refl, ap, ◌∙◌, subst, mul-le-mul_right, mul_assoc, arith, eq-eqb, ne_eqb}
 use native.Mathlib.Nat.{div-eq_of_lt-le}
 use Rattle.forest.proofs.Digits.{power_suc}
 use Rattle.std.specs.List.{AllByRecursion as All}
 use Rattle.std.proofs.lemmas.Bool.{cond-false}
-use Rattle.block.specs.Blocks.{Blocks, sum_to, free_count}
+use Rattle.block.specs.Blocks.{Blocks}
 use Rattle.forest.specs.Trees.{child, look}
 use Rattle.forest.specs.Frames.{Live}
 use Rattle.forest.specs.Plans.{any_to, changes, needed, Quiet, one_cell}

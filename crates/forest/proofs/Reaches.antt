@@ -1,11 +1,10 @@
 -- Each block that is out is reached from outside, and has no more holders than are outside and blocks are out.
-use Rattle.std.proofs.Common.{◌≡◌, ℕ, zero, suc, ◌+◌, ◌-◌, ◌*◌, ◌<◌, ◌≤◌, Bool, true, false, cond, eqb, ◌≢◌, sym, refl, ap, ◌∙◌, subst, arith}
-use native.Mathlib.Decide.{ℕ_discrete, dec_lt}
-use Rattle.std.proofs.lemmas.Bool.Decides.{nat_tests}
-use Rattle.block.specs.Blocks.{Blocks, Whole, sum_to}
-use Rattle.forest.specs.Balance.{hit, hold, Label, root, node, below, leads, from, Points, Balanced}
+use Rattle.std.proofs.Common.{◌≡◌, ℕ, zero, suc, ◌+◌, ◌<◌, ◌≤◌, sym, ap, ◌∙◌, arith}
+use native.Mathlib.Decide.{ℕ_discrete}
+use Rattle.block.specs.Blocks.{Blocks, sum_to}
+use Rattle.forest.specs.Balance.{Label, root, node, below, leads, from, Balanced}
 use Rattle.forest.specs.Reach.{Reached, root as held, step}
-use Rattle.block.proofs.Sums.{at_most_sum, sum_none, sum_ones}
+use Rattle.block.proofs.Sums.{at_most_sum, sum_ones}
 use Rattle.forest.proofs.Sums.{some_part, sum_single}
 use Rattle.forest.proofs.Balances.{leads_pointer, leads_one}
 use Rattle.forest.proofs.Frames.{inside, out_of}

@@ -1,20 +1,17 @@
 -- A tree is built anew, child by child.
-use Rattle.std.proofs.Common.{◌≡◌, ℕ, zero, suc, ◌+◌, ◌-◌, ◌*◌, ◌<◌, ◌≤◌, Bool, true, false, cond, ◌&&◌, ◌||◌, eqb, ltb, leb, ◌≢◌, List, [], ◌∷◌, length, get_or, set, replicate, sym, refl, ap, ◌∙◌, subst, add-one, arith, below_more, eq-eqb, ne_eqb}
-use mathlib.Core.Path.{fun_ext}
+use Rattle.std.proofs.Common.{◌≡◌, ℕ, zero, suc, ◌+◌, ◌-◌, ◌*◌, ◌<◌, ◌≤◌, Bool, true, false, cond, ◌||◌, eqb, ◌≢◌, List, [], ◌∷◌, length, get_or, set, replicate, sym, refl, ap, ◌∙◌, subst, arith, below_more, eq-eqb, ne_eqb}
 use native.Mathlib.Decide.{ℕ_discrete, dec_lt}
 use Rattle.std.proofs.lemmas.List.{get_or-set_same, get_or-set_other}
-use Rattle.std.specs.List.{AllByRecursion as All}
-use Rattle.std.proofs.lemmas.Bool.Decides.{nat_tests}
 use Rattle.std.proofs.lemmas.Bool.{cond-true, cond-false}
 use Rattle.block.specs.Blocks.{Blocks, Whole, sum_to}
 use Rattle.forest.specs.Trees.{child, look}
-use Rattle.forest.specs.Balance.{hit, hold, Label, root, node, below, leads, from, Points, Balanced}
+use Rattle.forest.specs.Balance.{hit, hold, Label, node, below, leads, from, Points, Balanced}
 use Rattle.forest.specs.Frames.{Grown, Live}
 use Rattle.forest.specs.Rebuilds.{number, Reads, Stay, Done, Undone, Dropped}
 use Rattle.forest.specs.Fills.{Filled}
 use Rattle.block.proofs.Sums.{sum_same, sum_at, sum_more}
 use Rattle.forest.proofs.Sums.{sum_split}
-use Rattle.forest.proofs.Balances.{hit_zero, hit_self, hit_other, hit_pointer, leads_zero, leads_pointer, hold_pointer, from_same, from_zeros, recount}
+use Rattle.forest.proofs.Balances.{hit_self, hit_pointer, leads_zero, from_same, from_zeros, recount}
 use Rattle.forest.proofs.Frames.{live_zero, live_grown, look_grown, out_below}
 
 pub grown_none : (m : Blocks) → Grown m m

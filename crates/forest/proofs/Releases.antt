@@ -1,13 +1,12 @@
 -- What `let_go` is, by cases.
-use Rattle.std.proofs.Common.{◌≡◌, ℕ, zero, suc, ◌+◌, ◌-◌, ◌<◌, ◌≤◌, Bool, true, false, cond, eqb, ◌≢◌, List, [], ◌∷◌, is_ok, Ok, Err, fold, Result, sym, refl, ap, ◌∙◌, subst, arith, eq-eqb, ne_eqb}
-use Rattle.std.specs.List.{range_with_len}
+use Rattle.std.proofs.Common.{◌≡◌, ℕ, zero, suc, ◌-◌, Bool, true, false, cond, eqb, ◌≢◌, List, [], ◌∷◌, is_ok, Ok, Err, fold, Result, sym, refl, ap, ◌∙◌, arith, eq-eqb, ne_eqb}
 use native.Mathlib.Decide.{ℕ_discrete}
 use Rattle.std.proofs.lemmas.Bool.Decides.{nat_tests}
 use Rattle.block.specs.Blocks.{Blocks, Whole}
 use Rattle.block.specs.Calls.{released, release_answer}
 use Rattle.block.specs.Refusals.{refusal}
 use Rattle.block.specs.declared.refusals.Refusal.{Refusal}
-use Rattle.forest.specs.Trees.{child, words, let_go}
+use Rattle.forest.specs.Trees.{words, let_go}
 
 pub released_flat : (m : Blocks) (p : ℕ) → let_go 0 m p ≡ m
 unfolding let_go

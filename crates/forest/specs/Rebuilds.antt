@@ -10,7 +10,7 @@
 --   Undone         it was begun and let go again
 --   Why            why it was refused
 --   Dropped        the fresh ones of sixteen stretches were let go
-use Rattle.std.specs.Prelude.{◌≡◌, ℕ, zero, suc, ◌+◌, ◌*◌, ◌^◌, ◌<◌, ◌≤◌, Bool, true, false, cond, List, [], ◌∷◌, length}
+use Rattle.std.specs.Prelude.{◌≡◌, ℕ, zero, suc, ◌+◌, ◌*◌, ◌<◌, ◌≤◌, Bool, true, false, cond, List, [], ◌∷◌, length}
 use Rattle.std.specs.List.{AllByRecursion as All}
 use Rattle.block.specs.Blocks.{Blocks, sum_to, free_count}
 use Rattle.block.specs.declared.refusals.Refusal.{Refusal}

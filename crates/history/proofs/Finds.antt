@@ -3,8 +3,8 @@ use Rattle.std.proofs.Common.{◌≡◌, ℕ, Bool, true, false, cond, ◌||◌,
 use Rattle.std.specs.List.{AllByRecursion as All}
 use lib.Dec.{eqb_refl}
 use Rattle.rules.specs.Lists.{any, Once}
-use Rattle.rules.proofs.Tests.{or_left, or_right, or_either, is_true, is_false}
-use Rattle.rules.proofs.Members.{any_append, any_map}
+use Rattle.rules.proofs.Tests.{or_left, or_right, or_either, is_false}
+use Rattle.rules.proofs.Members.{any_append}
 use Rattle.history.specs.Histories.{Snapshot, find}
 
 pub all_mono : {A : Type 0} {P Q : A → Type 0} → ((x : A) → P x → Q x) → (xs : List A) → All P xs → All Q xs

@@ -1,11 +1,10 @@
 -- The marks of a line are each stretch with the edit that was the last to change a cell of it.
-use Rattle.std.proofs.Common.{◌≡◌, ℕ, zero, suc, ◌+◌, ◌<◌, ◌≤◌, Bool, true, false, cond, not, ◌&&◌, ◌||◌, T, eqb, ◌⊎◌, List, [], ◌∷◌, ◌++◌, map, sym, refl, ap, ◌∙◌, subst, ap₂, inl, inr, ⊎_elim, arith, eqb→eq, T_not, ne_eqb}
+use Rattle.std.proofs.Common.{◌≡◌, ℕ, zero, suc, ◌≤◌, Bool, true, false, cond, not, ◌&&◌, ◌||◌, T, eqb, List, [], ◌∷◌, ◌++◌, map, sym, refl, ap, ◌∙◌, subst, ap₂, ⊎_elim, arith, eqb→eq, T_not, ne_eqb}
 use lib.Dec.{eqb_refl, not_T}
 use Rattle.rules.specs.Lists.{any, keep}
-use Rattle.rules.specs.Sheets.{Sheet, Edit, draw, drawn_on, blank_sheet}
-use Rattle.std.specs.List.{AllByRecursion as All}
-use Rattle.rules.specs.Stretches.{Stretch, same_stretch, Proper, touched, touches}
-use Rattle.rules.specs.DrawLaws.{Layered, OffSheet, Touches}
+use Rattle.rules.specs.Sheets.{Sheet, draw, drawn_on, blank_sheet}
+use Rattle.rules.specs.Stretches.{Stretch, same_stretch, touched, touches}
+use Rattle.rules.specs.DrawLaws.{Layered, OffSheet}
 use Rattle.rules.proofs.Onces.{In, in_left, in_right, in_either, from_keep, to_keep}
 use Rattle.rules.proofs.Tests.{and_both, and_left, and_right}
 use Rattle.rules.proofs.Members.{any_append}
@@ -13,7 +12,7 @@ use Rattle.rules.proofs.Draws.{drawn_inside}
 use Rattle.rules.proofs.Touched.{stretch_self, stretch_tells, touched_means}
 use Rattle.history.specs.Histories.{Entry, shown}
 use Rattle.history.specs.Counts.{touched_by, Mark, same_mark, mark, marks, or_this, last_from}
-use Rattle.history.specs.Laws.{LastTouch, LineBefore, LineLayered, Marks, MarksMean, MarksLast}
+use Rattle.history.specs.Laws.{LineBefore, LineLayered, MarksMean, MarksLast}
 use Rattle.history.proofs.Finds.{same_truth}
 use Rattle.history.proofs.Marked.{from_marked, to_marked}
 use Rattle.history.proofs.Takes.{on, last, firsts}

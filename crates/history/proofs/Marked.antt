@@ -1,5 +1,5 @@
 -- Marks, and the marks of one edit.
-use Rattle.std.proofs.Common.{◌≡◌, ℕ, ◌&&◌, T, eqb, List, [], ◌∷◌, map, ⊎_elim, eqb→eq}
+use Rattle.std.proofs.Common.{◌≡◌, ℕ, T, eqb, List, [], ◌∷◌, map, ⊎_elim, eqb→eq}
 use lib.Dec.{eqb_refl}
 use Rattle.rules.specs.Lists.{any, Once}
 use Rattle.rules.specs.Stretches.{Stretch, same_stretch}

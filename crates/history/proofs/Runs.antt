@@ -1,18 +1,17 @@
 -- What holds of every list of calls.
-use Rattle.std.proofs.Common.{◌≡◌, ℕ, zero, suc, ◌+◌, ◌-◌, ◌<◌, ◌≤◌, Bool, true, false, cond, not, ◌||◌, T, eqb, List, [], ◌∷◌, ◌++◌, map, length, sym, refl, ap, ◌∙◌, subst, ⊎_elim, append_assoc, append-nil, add-zero, add-suc, suc-add, zero-add, arith, eqb→eq, length-append, ltb-false}
+use Rattle.std.proofs.Common.{◌≡◌, ℕ, suc, ◌+◌, Bool, true, false, cond, not, T, eqb, List, [], ◌∷◌, ◌++◌, map, length, sym, refl, ap, ◌∙◌, subst, ⊎_elim, append_assoc, append-nil, add-zero, add-suc, suc-add, zero-add, arith, eqb→eq, length-append, ltb-false}
 use mathlib.Core.Option.{Option, none, some}
 use Rattle.std.specs.List.{AllByRecursion as All}
 use lib.Dec.{eqb_refl}
 use Rattle.rules.specs.Lists.{any, keep, gather, Once}
-use Rattle.rules.specs.Sheets.{Edit, blank_sheet}
 use Rattle.rules.specs.Refusals.{Refusal, no_change, no_blocks}
-use Rattle.rules.proofs.Tests.{or_left, or_right, or_either, is_true, is_false}
-use Rattle.rules.proofs.Onces.{In, in_left, in_right, in_either, distinct_once, from_distinct, to_distinct}
-use Rattle.history.specs.Histories.{Entry, Snapshot, History, empty, started, is_live, first_snapshot, find, snapshot, line_of}
-use Rattle.history.specs.Counts.{count, left_of, Mark, same_mark, marks}
+use Rattle.rules.proofs.Tests.{or_left, or_right, is_true, is_false}
+use Rattle.rules.proofs.Onces.{In, in_either, distinct_once, from_distinct, to_distinct}
+use Rattle.history.specs.Histories.{Entry, Snapshot, History, empty, started, first_snapshot, find, snapshot, line_of}
+use Rattle.history.specs.Counts.{count, left_of, Mark, same_mark}
 use Rattle.history.specs.Calls.{Call, start, edit, undo, redo, go, forget, ask_size, ask_head, ask_left, ask_parent, ask_dot, ask_flat, ask_protected, ask_record, ask_inked, ask_box, open_view, Answer, answer, grounds, refusal, step, carried_out, made, edited, moved_up, edit_grounds, changes_nothing, need_of, needs_more}
 use Rattle.history.specs.Runs.{run, run_from, answers_from}
-use Rattle.history.specs.Laws.{Marks, SoundHistory, RunsSound, Counted, RunsCounted, Made, RunsMade, RunsTakeNeed, AnswersByHistory, RefusedKeeps}
+use Rattle.history.specs.Laws.{SoundHistory, RunsSound, Counted, RunsCounted, Made, RunsMade, RunsTakeNeed, AnswersByHistory, RefusedKeeps}
 use Rattle.history.proofs.Finds.{all_mono, all_push, Among, among_numbers, found_or}
 use Rattle.history.proofs.Grounds.{fail, fail_back, not_false}
 use Rattle.history.proofs.Marked.{mark_self, mark_tells}

@@ -1,5 +1,5 @@
 -- What holds of the history of every run.
-use Rattle.std.proofs.Common.{◌≡◌, ℕ, zero, suc, ◌+◌, ◌-◌, ◌<◌, ◌≤◌, Bool, true, false, cond, not, ◌&&◌, ◌||◌, T, eqb, ltb, leb, List, [], ◌∷◌, ◌++◌, map, length, sym, refl, ap, ◌∙◌, subst, ⊎_elim, arith, eqb→eq, leb→le, ltb-false, eq-eqb}
+use Rattle.std.proofs.Common.{◌≡◌, ℕ, suc, ◌<◌, ◌≤◌, Bool, true, false, cond, not, ◌&&◌, ◌||◌, T, eqb, ltb, leb, List, [], ◌∷◌, ◌++◌, map, length, sym, refl, ap, ◌∙◌, subst, ⊎_elim, arith, eqb→eq, leb→le, ltb-false}
 use mathlib.Core.Option.{Option, none, some}
 use Rattle.std.proofs.lemmas.Bool.Decides.{eqb_tells}
 use Rattle.std.specs.List.{AllByRecursion as All}
@@ -8,14 +8,14 @@ use Rattle.rules.specs.Lists.{any, keep, gather, distinct, Once}
 use Rattle.rules.specs.Sheets.{Edit, blank_sheet}
 use Rattle.rules.specs.DrawLaws.{Layered}
 use Rattle.rules.specs.Refusals.{Refusal, no_change, no_blocks}
-use Rattle.rules.proofs.Tests.{and_left, and_right, or_left, or_right, or_either, is_true, is_false}
+use Rattle.rules.proofs.Tests.{and_left, and_right, or_left, or_right, or_either, is_true}
 use Rattle.rules.proofs.Members.{any_append}
 use Rattle.rules.proofs.Onces.{In, in_left, in_right, in_either, fits, distinct_once, from_distinct, to_distinct}
 use Rattle.history.specs.Histories.{Entry, Snapshot, History, started, is_live, first_snapshot, find, snapshot, line_of, last_place, stands_under, latest_from, latest, children, latest_child}
-use Rattle.history.specs.Counts.{count, left_of, Mark, same_mark, marks}
+use Rattle.history.specs.Counts.{left_of, Mark, same_mark, marks}
 use Rattle.history.specs.Calls.{Call, start, edit, undo, redo, go, forget, ask_size, ask_head, ask_left, ask_parent, ask_dot, ask_flat, ask_protected, ask_record, ask_inked, ask_box, open_view, grounds, refusal, step, carried_out, made, edited, forgotten, moved_up, at_head, or_head, edit_grounds, changes_nothing, need_of, needs_more, number_taken, good_length}
 use Rattle.history.specs.Laws.{LineBefore, LineLayered, StandsWell, SoundSnapshot, SoundHistory}
-use Rattle.history.proofs.Finds.{all_mono, all_push, Among, among_numbers, found_all, found_or, found_number, find_still, once_push}
+use Rattle.history.proofs.Finds.{all_mono, all_push, Among, found_all, found_or, found_number, find_still, once_push}
 use Rattle.history.proofs.Grounds.{fail, fail_front, fail_back, not_false, or_false_left, or_false_right, grounds_layered}
 use Rattle.history.proofs.Marked.{mark_self, mark_tells}
 use Rattle.history.proofs.Takes.{takes_need, of}

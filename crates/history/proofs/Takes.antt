@@ -1,14 +1,14 @@
 -- An edit raises the count by exactly its need.
-use Rattle.std.proofs.Common.{◌≡◌, ℕ, zero, suc, ◌+◌, ◌<◌, ◌≤◌, Bool, true, false, cond, not, ◌||◌, T, eqb, ◌⊎◌, List, [], ◌∷◌, ◌++◌, map, length, sym, refl, ap, ◌∙◌, subst, inl, inr, ⊎_elim, append_assoc, append-nil, arith, T_not, length-append}
+use Rattle.std.proofs.Common.{◌≡◌, ℕ, ◌<◌, Bool, true, false, cond, not, ◌||◌, T, eqb, ◌⊎◌, List, [], ◌∷◌, ◌++◌, map, length, sym, ap, ◌∙◌, subst, inl, inr, ⊎_elim, append_assoc, append-nil, arith, T_not, length-append}
 use lib.Dec.{not_T}
 use lib.ListN.{length-map}
 use Rattle.std.specs.List.{AllByRecursion as All}
 use Rattle.rules.specs.Lists.{any, keep, gather, distinct}
-use Rattle.rules.specs.Sheets.{Sheet, Edit, draw, drawn_on, tree_of, changed, blank_sheet}
+use Rattle.rules.specs.Sheets.{Sheet, draw, drawn_on, tree_of, changed, blank_sheet}
 use Rattle.rules.specs.Stretches.{Stretch, same_stretch, stretches_of, touched}
 use Rattle.rules.proofs.Onces.{In, in_left, in_right, in_either, from_distinct, to_distinct, distinct_once, as_long, once_append, from_keep, to_keep}
 use Rattle.rules.proofs.Touched.{stretch_self, stretch_tells}
-use Rattle.history.specs.Histories.{Entry, Snapshot, History, first_snapshot, find, line_of, sheet_of}
+use Rattle.history.specs.Histories.{Entry, Snapshot, first_snapshot, find, line_of, sheet_of}
 use Rattle.history.specs.Counts.{touched_by, Mark, same_mark, mark, marks}
 use Rattle.history.specs.Calls.{made}
 use Rattle.history.specs.Laws.{LineBefore, TakesNeed}

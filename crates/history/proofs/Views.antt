@@ -1,10 +1,9 @@
 -- Headers and rows that are not refused fit.
-use Rattle.std.proofs.Common.{◌≡◌, ℕ, suc, ◌<◌, ◌≤◌, not, ◌&&◌, eqb, ltb, leb, [], ◌∷◌, length, ap, arith, ltb-false, leb-false}
+use Rattle.std.proofs.Common.{suc, not, ◌&&◌, eqb, ltb, leb, [], ◌∷◌, length, ap, ltb-false, leb-false}
 use mathlib.Core.Option.{Option, none, some}
 use Rattle.rules.specs.Refusals.{Refusal, bad_size, nowhere, short_buffer}
-use Rattle.history.specs.Histories.{History}
 use Rattle.history.specs.Calls.{of_snapshot}
-use Rattle.history.specs.Views.{View, header_of, next_row, row_grounds, row_refusal, after_row}
+use Rattle.history.specs.Views.{View, header_of, next_row, row_grounds}
 use Rattle.history.specs.Laws.{ViewsFit}
 use Rattle.history.proofs.Grounds.{fail, fail_back}
 

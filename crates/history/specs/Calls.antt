@@ -14,7 +14,7 @@ use Rattle.rules.specs.Stretches.{need}
 use Rattle.rules.specs.Pictures.{flat_dot, inked_count, box}
 use Rattle.rules.specs.Bytes.{Kind}
 use Rattle.rules.specs.Refusals.{Refusal, not_started, already_started, bad_size, store_in_use, bad_number, not_live, bad_layer, bad_points, no_change, no_blocks, nowhere, numbers, Ground, first}
-use Rattle.history.specs.Histories.{Entry, Snapshot, History, started, is_live, first_snapshot, snapshot, line_of, sheet_of, stands_under, children, latest_child}
+use Rattle.history.specs.Histories.{Snapshot, History, started, is_live, first_snapshot, snapshot, line_of, sheet_of, stands_under, children, latest_child}
 use Rattle.history.specs.Counts.{count, left_of}
 
 -- an edit comes with the number for the snapshot that it makes; questions come last

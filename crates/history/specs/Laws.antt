@@ -1,6 +1,6 @@
 -- What is proved of histories and of runs.
 use Rattle.std.specs.Prelude.{◌≡◌, ℕ, suc, ◌+◌, ◌<◌, ◌≤◌, T, ◌↔◌, List, [], ◌∷◌, ◌++◌, map, length, ◌==◌, ◌≢◌, nat_eq}
-use Rattle.std.proofs.Math.Option.{Option, none, some}
+use Rattle.std.proofs.Math.Option.{none, some}
 use Rattle.std.specs.List.{AllByRecursion as All}
 use Rattle.rules.specs.Lists.{any, Once}
 use Rattle.rules.specs.Sheets.{Edit, blank_sheet}

@@ -1,6 +1,6 @@
 -- That the kinds keep the laws of kinds: what the members of the code cite.
-use Rattle.std.specs.Prelude.{ℕ, ◌+◌, ◌%◌, ◌<◌, ◌≤◌, ◌≡◌, refl, true, cond, ◌&&◌, leb}
-use Rattle.std.proofs.Common.{sym, ap, ◌∙◌, arith, le-ltb, le-leb}
+use Rattle.std.specs.Prelude.{ℕ, ◌+◌, ◌%◌, ◌≤◌, ◌≡◌, refl, true, cond, ◌&&◌, leb}
+use Rattle.std.proofs.Common.{ap, ◌∙◌, arith, le-ltb, le-leb}
 use Rattle.std.proofs.Math.Option.{Option, none, some}
 use Rattle.rules.specs.Cells.{dot_word, word_dot, record_word}
 use Rattle.rules.specs.Dots.{Dot, Sound, blank}

@@ -1,5 +1,5 @@
 -- Holders and words still fit their cells after a call.
-use Rattle.std.proofs.Common.{◌≡◌, ℕ, ◌+◌, ◌^◌, ◌<◌, arith}
+use Rattle.std.proofs.Common.{ℕ, ◌^◌, ◌<◌, arith}
 use Rattle.std.proofs.lemmas.Bool.Decides.{nat_tests}
 use Rattle.block.specs.Blocks.{Blocks}
 use Rattle.block.specs.Calls.{written, kept, released, taken}

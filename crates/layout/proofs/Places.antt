@@ -1,7 +1,6 @@
 -- What the answers of a slab tell.
-use Rattle.std.proofs.Common.{◌≡◌, ℕ, ◌+◌, ◌*◌, ◌<◌, true, false, eqb, ltb, Ok, Result, ap, ◌∙◌, arith}
+use Rattle.std.proofs.Common.{◌≡◌, ℕ, ◌+◌, ◌*◌, ◌<◌, true, false, eqb, ltb, Ok, ap, ◌∙◌, arith}
 use Rattle.std.proofs.lemmas.Bool.Decides.{nat_tests}
-use Rattle.block.specs.declared.refusals.Refusal.{Refusal}
 use Rattle.block.specs.Blocks.{Blocks, is_free}
 use Rattle.block.specs.Calls.{refused_if}
 use Rattle.block.proofs.Answered.{accepted, passed, same_value, free_false, held_false}

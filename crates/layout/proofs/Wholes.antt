@@ -1,5 +1,5 @@
 -- Blocks laid in memory are those of a store.
-use Rattle.std.proofs.Common.{◌≡◌, ℕ, ◌≤◌, List, arith}
+use Rattle.std.proofs.Common.{ℕ, List, arith}
 use Rattle.std.proofs.lemmas.Bool.Decides.{nat_tests}
 use Rattle.block.specs.Blocks.{Whole}
 use Rattle.layout.specs.Layout.{laid, Fits}

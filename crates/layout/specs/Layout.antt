@@ -5,7 +5,7 @@
 --   Fits m           holders fit 16 bits, and words 32
 --   past ns ws hs    the frame of a store on this memory: the references named ns, and the cells past the blocks
 --   Cleared, Claimed   the cells once all blocks are freed, and once a number is put out
-use Rattle.std.specs.Prelude.{◌≡◌, ℕ, ◌+◌, ◌*◌, ◌/◌, ◌^◌, ◌<◌, min, Bool, cond, ◌&&◌, ◌≢◌, List, length, drop, Ok, Err, Result, ◌==◌, nat_lt, slice_index}
+use Rattle.std.specs.Prelude.{◌≡◌, ℕ, ◌+◌, ◌*◌, ◌/◌, ◌^◌, ◌<◌, min, Bool, cond, ◌&&◌, ◌≢◌, List, length, drop, Ok, Result, ◌==◌, nat_lt, slice_index}
 use Rattle.std.specs.Borrow.{GName}
 use Rattle.block.specs.declared.refusals.Refusal.{Refusal}
 use Rattle.block.specs.Blocks.{Blocks, Frame, is_free}

@@ -1,5 +1,5 @@
 -- A new store: all blocks free, each linked to the next.
-use Rattle.std.proofs.Common.{◌≡◌, ℕ, ◌+◌, ◌*◌, ◌<◌, ◌≤◌, List, length, get_or, drop, sym, refl, ap, ◌∙◌, subst, arith}
+use Rattle.std.proofs.Common.{◌≡◌, ℕ, ◌+◌, ◌*◌, ◌<◌, List, length, get_or, drop, sym, refl, ap, ◌∙◌, subst, arith}
 use base.Fml.{GName}
 use Rattle.std.specs.List.{range_with_len}
 use Rattle.block.specs.Blocks.{all_free}

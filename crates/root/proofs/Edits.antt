@@ -1,5 +1,5 @@
 -- The root of a new snapshot.
-use Rattle.std.proofs.Common.{◌≡◌, ℕ, zero, suc, ◌+◌, ◌-◌, ◌<◌, ◌≤◌, Bool, true, false, cond, sym, refl, ap, ◌∙◌, subst, arith}
+use Rattle.std.proofs.Common.{◌≡◌, ℕ, zero, suc, ◌+◌, ◌-◌, ◌<◌, ◌≤◌, true, false, sym, refl, ap, ◌∙◌, subst, arith}
 use mathlib.Core.Path.{fun_ext}
 use native.Mathlib.Decide.{ℕ_discrete}
 use Rattle.std.proofs.lemmas.Bool.Decides.{nat_tests}
@@ -8,7 +8,7 @@ use Rattle.block.specs.declared.refusals.Refusal.{Refusal}
 use Rattle.block.specs.declared.refusals.Refusal.TheVariants.{NoneFree, NotOut, TooMany, NoWord}
 use Rattle.block.proofs.Counts.{all_out}
 use Rattle.forest.specs.Trees.{child}
-use Rattle.forest.specs.Balance.{hold, Label, root, node, Points, Balanced}
+use Rattle.forest.specs.Balance.{hold, node, Points}
 use Rattle.forest.specs.Frames.{Live}
 use Rattle.forest.specs.Plans.{needed}
 use Rattle.forest.specs.Fills.{Blocked, Filled}
@@ -18,7 +18,7 @@ use Rattle.forest.proofs.Frames.{live}
 use Rattle.forest.proofs.Rebuilds.{live_out}
 use Rattle.forest.proofs.Reaches.{few_holders}
 use Rattle.forest.proofs.Restores.{same_model}
-use Rattle.count.specs.Paths.{held_by, Stands}
+use Rattle.count.specs.Paths.{held_by}
 use Rattle.count.specs.Steps.{put}
 use Rattle.count.proofs.Holders.{held_few}
 use Rattle.count.proofs.Founds.{sits_root}

@@ -1,6 +1,5 @@
 -- A layer's box is the smallest rectangle round its inked dots.
-use Rattle.std.proofs.Common.{◌≡◌, ℕ, ◌≤◌, min, max, List, [], ◌∷◌, refl, arith}
-use mathlib.Core.Option.{Option, none, some}
+use Rattle.std.proofs.Common.{◌≤◌, List, [], ◌∷◌, refl, arith}
 use Rattle.std.specs.List.{AllByRecursion as All}
 use Rattle.rules.specs.Lines.{Point}
 use Rattle.rules.specs.Pictures.{wider, widened, box_of, inked}

@@ -1,17 +1,15 @@
 -- Which cells an edit changes.
-use Rattle.std.proofs.Common.{◌≡◌, ℕ, zero, suc, ◌+◌, ◌-◌, ◌*◌, ◌/◌, ◌%◌, ◌^◌, ◌<◌, ◌≤◌, Bool, true, false, cond, not, ◌&&◌, ◌||◌, T, eqb, ltb, ◌⊎◌, List, [], ◌∷◌, map, sym, refl, ap, ◌∙◌, subst, inl, inr, ⊎_elim, zero-le, zero-add, arith, eqb→eq, ltb→lt, lt→ltb, T_not}
+use Rattle.std.proofs.Common.{◌≡◌, ℕ, suc, ◌+◌, ◌*◌, ◌/◌, ◌%◌, ◌^◌, ◌<◌, ◌≤◌, Bool, true, false, not, ◌&&◌, T, eqb, ltb, ◌⊎◌, map, sym, refl, ap, ◌∙◌, subst, inl, inr, ⊎_elim, zero-le, zero-add, arith, eqb→eq, ltb→lt, T_not}
 use mathlib.Core.Path.{fun_ext}
-use mathlib.Core.Option.{Option, none, some}
 use Rattle.std.proofs.lemmas.Bool.{ne_eqb}
 use Rattle.std.proofs.lemmas.Bool.Decides.{eqb_tells, leb_tells}
 use lib.Dec.{eqb_refl, not_T}
-use Rattle.rules.specs.Dots.{blank}
-use Rattle.rules.specs.Lists.{any, keep, below, row_of, gather}
+use Rattle.rules.specs.Lists.{any, below, row_of, gather}
 use Rattle.rules.specs.Cells.{dot_word, dot_column, dot_row, dot_index, strip_word, strip_at, record_word, depth, cells_on}
 use Rattle.rules.specs.Lines.{on_sheet}
-use Rattle.rules.specs.Sheets.{Sheet, Edit, stroke, fill, frisket, layer, draw, word_of, tree_of, changed}
-use Rattle.rules.specs.DrawLaws.{OffSheet, Layered, Differs, ChangedMeans}
-use Rattle.rules.proofs.Tests.{and_both, and_left, and_right, or_left, or_right, or_either, is_true, is_false}
+use Rattle.rules.specs.Sheets.{Sheet, Edit, stroke, fill, frisket, layer, draw, word_of, tree_of}
+use Rattle.rules.specs.DrawLaws.{OffSheet, Layered, ChangedMeans}
+use Rattle.rules.proofs.Tests.{and_left, and_right}
 use Rattle.rules.proofs.Members.{in_row, any_gather, any_map}
 use Rattle.rules.proofs.Onces.{from_keep, to_keep}
 use Rattle.rules.proofs.Places.{dots_placed}

@@ -1,18 +1,17 @@
 -- What drawing keeps.
-use Rattle.std.proofs.Common.{◌≡◌, ℕ, zero, suc, ◌+◌, ◌-◌, ◌*◌, ◌<◌, ◌≤◌, Bool, true, false, cond, not, ◌&&◌, ◌||◌, T, eqb, List, [], ◌∷◌, sym, refl, ap, ◌∙◌, subst, arith}
+use Rattle.std.proofs.Common.{◌≡◌, ℕ, Bool, true, false, cond, not, ◌&&◌, T, eqb, List, [], ◌∷◌, refl, arith}
 use mathlib.Core.Option.{Option, none, some}
 use Rattle.std.specs.List.{AllByRecursion as All}
 use Rattle.std.proofs.lemmas.Bool.{ne_eqb}
 use lib.Dec.{eqb_refl}
 use Rattle.rules.specs.Dots.{Dot, Sound, blank, over, laid, faded, same_dot}
-use Rattle.rules.specs.Pens.{Pen}
 use Rattle.rules.specs.Lines.{Point, on_sheet, covers, in_rectangle, in_square, trail}
 use Rattle.rules.specs.Lists.{any, below}
-use Rattle.rules.specs.Pictures.{seen_through, layers_over, flat_dot}
+use Rattle.rules.specs.Pictures.{seen_through, layers_over}
 use Rattle.rules.specs.Reach.{Reach, reached, listed}
-use Rattle.rules.specs.Sheets.{Sheet, Edit, stroke, fill, frisket, layer, draw, drawn, drawn_on, blank_sheet, fills_through, dots_where}
-use Rattle.rules.specs.DrawLaws.{Filled, FillReaches, ProtectedKept, SoundEdit, ByteOrNone, SoundSheet, DrawnSound, FlatSound, OffSheet, DrawnInside}
-use Rattle.rules.proofs.Tests.{and_both, and_left, and_right, is_true, is_false, from_not}
+use Rattle.rules.specs.Sheets.{Sheet, Edit, stroke, fill, frisket, layer, draw, drawn_on, blank_sheet, fills_through}
+use Rattle.rules.specs.DrawLaws.{FillReaches, ProtectedKept, SoundEdit, ByteOrNone, SoundSheet, DrawnSound, FlatSound, OffSheet, DrawnInside}
+use Rattle.rules.proofs.Tests.{and_left, and_right, is_true, is_false}
 use Rattle.rules.proofs.Inks.{laid_sound, faded_sound}
 use Rattle.rules.proofs.Floods.{rounds_reach}
 

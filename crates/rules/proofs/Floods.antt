@@ -1,10 +1,10 @@
 -- The rounds of a fill find what is reached by steps, and nothing else.
-use Rattle.std.proofs.Common.{◌≡◌, ℕ, zero, suc, ◌+◌, ◌-◌, ◌*◌, ◌<◌, ◌≤◌, Bool, true, false, cond, ◌&&◌, ◌||◌, T, eqb, ltb, ◌⊎◌, List, [], ◌∷◌, ◌++◌, map, length, sym, refl, ap, ◌∙◌, subst, subst₂, inl, inr, ⊎_elim, arith, eqb→eq, ltb→lt}
+use Rattle.std.proofs.Common.{◌≡◌, ℕ, zero, suc, ◌+◌, ◌*◌, ◌<◌, Bool, ◌&&◌, ◌||◌, T, eqb, ltb, ◌⊎◌, List, [], ◌∷◌, length, sym, ap, ◌∙◌, subst, subst₂, inl, inr, ⊎_elim, arith, eqb→eq, ltb→lt}
 use Rattle.std.proofs.lemmas.Bool.Decides.{eqb_tells}
 use lib.Dec.{eqb_refl}
-use Rattle.rules.specs.Lists.{any, keep, apart}
+use Rattle.rules.specs.Lists.{keep, apart}
 use Rattle.rules.specs.Lines.{Point, on_sheet}
-use Rattle.rules.specs.Reach.{Reach, here, right, left, up, down, listed, beside, points_on, first_round, next_round, rounds, reached}
+use Rattle.rules.specs.Reach.{Reach, here, right, left, up, down, listed, beside, points_on, next_round, rounds, reached}
 use Rattle.rules.specs.DrawLaws.{RoundsReach}
 use Rattle.rules.proofs.Tests.{and_both, and_left, and_right, or_left, or_right, or_either}
 use Rattle.rules.proofs.Members.{on_points, length_points, kept_listed, listed_kept, kept_most, kept_more}

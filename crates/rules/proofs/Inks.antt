@@ -1,6 +1,6 @@
 -- The laws of the inks.
-use Rattle.std.proofs.Common.{◌≡◌, ℕ, ◌+◌, ◌-◌, ◌*◌, ◌/◌, ◌<◌, ◌≤◌, sym, refl, ap, ◌∙◌, mul-le-mul_right, zero-mul, arith}
-use Rattle.rules.specs.Dots.{Dot, Sound, Rule, over, erase, blank, laid, faded, rounded, channel}
+use Rattle.std.proofs.Common.{◌≡◌, ℕ, ◌-◌, ◌*◌, ◌≤◌, ap, ◌∙◌, mul-le-mul_right, zero-mul, arith}
+use Rattle.rules.specs.Dots.{Dot, Rule, over, erase, blank, laid, faded, rounded, channel}
 use Rattle.rules.specs.InkLaws.{BlankKeeps, BlankFades, LaidSound, FadedSound, PaperByte}
 
 -- one channel under blank ink

@@ -1,8 +1,8 @@
 -- Lists without repetitions: how long they are goes by what is on them.
-use Rattle.std.proofs.Common.{◌≡◌, ℕ, zero, suc, ◌+◌, ◌-◌, ◌*◌, ◌<◌, ◌≤◌, Bool, true, false, cond, not, ◌&&◌, ◌||◌, T, ◌⊎◌, List, [], ◌∷◌, ◌++◌, map, length, sym, refl, ap, ◌∙◌, subst, inl, inr, ⊎_elim, le_antisymm, arith}
-use Rattle.rules.specs.Lists.{any, keep, gather, distinct, Once}
-use Rattle.rules.proofs.Tests.{and_both, and_left, and_right, or_left, or_right, or_either, is_true, is_false, from_not}
-use Rattle.rules.proofs.Members.{any_append, any_gather, any_map}
+use Rattle.std.proofs.Common.{◌≡◌, suc, ◌≤◌, Bool, true, false, cond, ◌||◌, T, ◌⊎◌, List, [], ◌∷◌, ◌++◌, length, sym, refl, ap, ◌∙◌, subst, ⊎_elim, le_antisymm, arith}
+use Rattle.rules.specs.Lists.{any, keep, distinct, Once}
+use Rattle.rules.proofs.Tests.{or_left, or_right, or_either}
+use Rattle.rules.proofs.Members.{any_append}
 
 module _ {A : Type 0} (same : A → A → Bool) where
   -- x is on the list

@@ -1,5 +1,5 @@
 -- The stretches that are counted for an edit are those of which it changes a cell.
-use Rattle.std.proofs.Common.{◌≡◌, ℕ, zero, suc, ◌+◌, ◌-◌, ◌*◌, ◌/◌, ◌^◌, ◌<◌, ◌≤◌, Bool, true, false, cond, not, ◌&&◌, ◌||◌, T, eqb, ltb, List, [], ◌∷◌, map, sym, refl, ap, ◌∙◌, subst, ⊎_elim, div-lt_iff_lt-mul, arith, eqb→eq, pow-add}
+use Rattle.std.proofs.Common.{◌≡◌, ℕ, zero, suc, ◌+◌, ◌-◌, ◌*◌, ◌/◌, ◌^◌, ◌<◌, ◌≤◌, Bool, true, false, not, ◌&&◌, T, eqb, ltb, map, sym, refl, ap, ◌∙◌, subst, ⊎_elim, div-lt_iff_lt-mul, arith, eqb→eq, pow-add}
 use native.Mathlib.Nat.{one-le-pow}
 use Rattle.std.proofs.lemmas.Bool.{cases_eq}
 use Rattle.std.proofs.lemmas.Bool.Decides.{nat_tests}
@@ -7,8 +7,8 @@ use lib.Dec.{eqb_refl}
 use Rattle.rules.specs.Lists.{any, gather, row_of, below}
 use Rattle.rules.specs.Cells.{depth, cells_on, dot_index}
 use Rattle.rules.specs.Sheets.{Sheet, Edit, stroke, fill, frisket, layer, draw, tree_of, changed, word_of}
-use Rattle.rules.specs.Stretches.{Stretch, same_stretch, Proper, stretch_at, stretches_of, touched, touches}
-use Rattle.rules.specs.DrawLaws.{Layered, OffSheet, Touches, TouchedMeans}
+use Rattle.rules.specs.Stretches.{Stretch, same_stretch, Proper, stretch_at, stretches_of, touches}
+use Rattle.rules.specs.DrawLaws.{Layered, TouchedMeans}
 use Rattle.rules.proofs.Tests.{and_both, and_left, and_right, or_left, or_right, or_either}
 use Rattle.rules.proofs.Onces.{In, from_distinct, to_distinct, from_keep}
 use Rattle.rules.proofs.Members.{any_gather, any_map, some_of, of_some, in_bounds, some_in_row}

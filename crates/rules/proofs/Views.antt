@@ -1,14 +1,12 @@
 -- The bytes of views.
-use Rattle.std.proofs.Common.{◌≡◌, ℕ, zero, suc, ◌+◌, ◌-◌, ◌*◌, ◌/◌, ◌%◌, ◌<◌, ◌≤◌, Bool, true, false, cond, ltb, List, [], ◌∷◌, ◌++◌, map, length, get_or, sym, refl, ap, ◌∙◌, subst, mul_comm, arith, ltb-false, ltb-true}
+use Rattle.std.proofs.Common.{◌≡◌, ℕ, ◌+◌, ◌*◌, ◌/◌, ◌%◌, ◌<◌, ◌≤◌, Bool, true, false, cond, ltb, List, [], ◌∷◌, ◌++◌, map, get_or, refl, ap, ◌∙◌, mul_comm, arith, ltb-false, ltb-true}
 use Rattle.std.specs.List.{AllByRecursion as All}
 use lib.ListN.{length-map}
-use Rattle.rules.specs.Lists.{below, row_of, gather}
+use Rattle.rules.specs.Lists.{below, gather}
 use Rattle.rules.specs.Dots.{Dot, Sound}
-use Rattle.rules.specs.Sheets.{Sheet}
 use Rattle.rules.specs.Pictures.{flat_dot}
-use Rattle.rules.specs.Bytes.{Kind, colour, mask, decimal, paper_bytes, mask_byte, row_bytes}
-use Rattle.rules.specs.DrawLaws.{SoundSheet}
-use Rattle.rules.specs.ViewLaws.{spelt, Decimal, DecimalsSpell, RowLengths, RowsBytes, MaskBits}
+use Rattle.rules.specs.Bytes.{colour, mask, paper_bytes, mask_byte}
+use Rattle.rules.specs.ViewLaws.{spelt, DecimalsSpell, RowLengths, RowsBytes, MaskBits}
 use Rattle.rules.proofs.Bits.{binary_below, binary_back}
 use Rattle.rules.proofs.Inks.{paper_byte}
 use Rattle.rules.proofs.Draws.{flat_sound}

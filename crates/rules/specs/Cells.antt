@@ -5,7 +5,7 @@
 --   strip    32 dots of a row, each protected or not, the leftmost first
 --   record   a layer's opacity; a layer without one does not exist
 --   depth    of a tree: its indices have that many digits in base 16
-use Rattle.std.specs.Prelude.{ℕ, ◌+◌, ◌-◌, ◌*◌, ◌/◌, ◌%◌, ◌^◌, Bool, cond, List, [], ◌∷◌, map, ◌==◌, nat_lt}
+use Rattle.std.specs.Prelude.{ℕ, ◌+◌, ◌-◌, ◌*◌, ◌/◌, ◌%◌, ◌^◌, Bool, cond, List, map, ◌==◌, nat_lt}
 use Rattle.std.proofs.Math.Option.{Option, none, some}
 use Rattle.rules.specs.Dots.{Dot}
 use Rattle.rules.specs.Lists.{below, row_of, total, gather, binary, binary_digit}

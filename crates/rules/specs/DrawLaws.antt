@@ -1,5 +1,5 @@
 -- What is proved of edits and of drawn sheets.
-use Rattle.std.specs.Prelude.{◌≡◌, ℕ, ◌/◌, ◌^◌, ◌<◌, ◌≤◌, Bool, false, not, T, ◌↔◌, List, [], ◌∷◌, ◌≢◌, nat_eq}
+use Rattle.std.specs.Prelude.{◌≡◌, ℕ, ◌/◌, ◌^◌, ◌<◌, ◌≤◌, Bool, false, not, T, ◌↔◌, List, [], ◌≢◌, nat_eq}
 use Rattle.std.proofs.Math.Option.{Option, none, some}
 use Rattle.rules.specs.Pictures.{inked, box, flat_dot}
 use Rattle.std.specs.List.{AllByRecursion as All}

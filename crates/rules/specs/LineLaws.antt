@@ -1,5 +1,5 @@
 -- What is proved of lines.
-use Rattle.std.specs.Prelude.{◌≡◌, ℕ, suc, ◌<◌, ◌≤◌}
+use Rattle.std.specs.Prelude.{◌≡◌, ℕ, suc, ◌≤◌}
 use Rattle.rules.specs.Lists.{apart}
 use Rattle.rules.specs.Lines.{Point, steps, line_dot}
 

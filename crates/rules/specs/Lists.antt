@@ -8,7 +8,7 @@
 --   distinct     a list without its repetitions
 --   gather       lists joined, one for each element
 --   Once         nothing stands on a list twice
-use Rattle.std.specs.Prelude.{ℕ, zero, suc, ◌+◌, ◌-◌, ◌*◌, ◌/◌, ◌%◌, ◌^◌, Bool, true, false, cond, not, ◌||◌, T, List, [], ◌∷◌, ◌++◌, ◌==◌}
+use Rattle.std.specs.Prelude.{ℕ, zero, suc, ◌+◌, ◌-◌, ◌*◌, ◌/◌, ◌%◌, ◌^◌, Bool, true, false, cond, ◌||◌, T, List, [], ◌∷◌, ◌++◌, ◌==◌}
 
 abbrev pub row_of : ℕ → ℕ → List ℕ
 row_of a zero = []

@@ -1,5 +1,5 @@
 -- A loop that puts f of each element in the place of the element.
-use Rattle.std.proofs.Common.{◌≡◌, ℕ, ◌+◌, ◌<◌, ◌≤◌, List, ◌++◌, map, length, get_or, take, drop, set, sym, ap, ◌∙◌, ap₂, append-nil, arith, length-append}
+use Rattle.std.proofs.Common.{◌≡◌, ℕ, ◌+◌, ◌<◌, ◌≤◌, List, ◌++◌, map, length, get_or, take, drop, set, sym, ap, ◌∙◌, append-nil, arith, length-append}
 use Rattle.std.proofs.lemmas.List.{take_all, drop_all, get_or_default, length-map, take-append-drop}
 use Rattle.std.proofs.lemmas.List.Edits.{map_over_more}
 

@@ -6,7 +6,7 @@
 --   moved_up       a snapshot, moved under another parent if it stands under s
 --   but s          whether a number is another than s
 --   last_under     the last number on a list whose snapshot stands under the one with the number s
-use Rattle.std.specs.Prelude.{ℕ, Bool, true, false, cond, not, List, [], ◌∷◌, Some, None, Option, ◌==◌, slice_index_or}
+use Rattle.std.specs.Prelude.{ℕ, Bool, false, cond, not, List, [], ◌∷◌, Some, None, Option, ◌==◌, slice_index_or}
 use Rattle.table.specs.declared.records.Snapshot.{Snapshot}
 
 abbrev pub vacant : Snapshot

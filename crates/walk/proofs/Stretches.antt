@@ -3,9 +3,9 @@ use mathlib.Core.Path.{◌≡◌, refl, sym, ap, subst, ◌∙◌}
 use mathlib.Core.Logic.{◌≢◌}
 use mathlib.Core.Bool.{Bool, true, false, cond}
 use mathlib.Core.List.{List, [], ◌∷◌}
-use Prim.Native.Nat.{ℕ, zero, suc, ◌+◌, ◌-◌, ◌*◌, ◌/◌, ◌%◌, ◌^◌, ◌<◌, ◌≤◌}
+use Prim.Native.Nat.{ℕ, suc, ◌+◌, ◌-◌, ◌*◌, ◌/◌, ◌%◌, ◌^◌, ◌<◌, ◌≤◌}
 use native.Mathlib.Omega.{arith}
-use native.Mathlib.Nat.{mul_assoc, add-mul, suc-mul, mul_comm, div-eq_of_lt-le}
+use native.Mathlib.Nat.{mul_assoc, add-mul, suc-mul, div-eq_of_lt-le}
 use Rattle.block.specs.Blocks.{Blocks}
 use Rattle.forest.specs.Trees.{child, look, digits, lookup}
 use Rattle.forest.proofs.Digits.{power_suc}

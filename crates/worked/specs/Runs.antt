@@ -2,7 +2,7 @@
 --
 --   broad    a black pen of side 3
 --   rubber   an opaque pen of side 1 that erases
-use Rattle.std.specs.Prelude.{ℕ, ◌≡◌, true, false, List, [], ◌∷◌, ◌++◌, map, replicate}
+use Rattle.std.specs.Prelude.{ℕ, ◌≡◌, true, false, List, [], ◌∷◌, map, replicate}
 use Rattle.std.proofs.Math.Option.{none, some}
 use Rattle.rules.specs.Dots.{over, erase, blank}
 use Rattle.rules.specs.Pens.{Pen, first_pen, black}

@@ -1,4 +1,4 @@
-use Rattle.std.proofs.Common.{refl, ◌∙◌, arith}
+use Rattle.std.proofs.Common.{refl, ◌∙◌}
 use Rattle.ink.specs.Meanings.{dot_of}
 use Rattle.ink.proofs.Places.{place_more, row_all}
 use Rattle.ink.proofs.rows.lay_ink.Goals as goal

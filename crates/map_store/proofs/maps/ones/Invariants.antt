@@ -1,4 +1,4 @@
-use Rattle.std.proofs.Common.{◌≡◌, ℕ, ◌*◌, ◌≤◌}
+use Rattle.std.proofs.Common.{◌≡◌, ◌*◌, ◌≤◌}
 use Rattle.block.specs.Blocks.{sum_to}
 use Rattle.marks.specs.Map.{mark}
 use Rattle.map_store.proofs.maps.ones.Given as goal

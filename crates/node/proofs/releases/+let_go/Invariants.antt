@@ -1,4 +1,4 @@
-use Rattle.std.proofs.Common.{◌≡◌, ℕ, ◌-◌, drop, fold}
+use Rattle.std.proofs.Common.{◌≡◌, ◌-◌, drop, fold}
 use Rattle.forest.specs.Trees.{let_go}
 use Rattle.node.proofs.releases.+let_go.Given as goal
 

@@ -1,11 +1,9 @@
-use Rattle.std.proofs.Common.{◌≡◌, ℕ, suc, ◌+◌, ◌-◌, ◌<◌, Bool, true, false, cond, not, eqb, length, get_or, sym, refl, ap, ◌∙◌, subst, arith, length-set}
+use Rattle.std.proofs.Common.{ℕ, ◌-◌, false, not, eqb, sym, refl, ◌∙◌, subst, arith, length-set}
 use Rattle.std.proofs.lemmas.List.{get_or-set_same, get_or-set_other}
 use Rattle.std.proofs.lemmas.Bool.Decides.{nat_tests}
-use Rattle.block.specs.Blocks.{Blocks}
 use Rattle.forest.specs.Rebuilds.{Done, Counted}
 use Rattle.forest.proofs.Counts.{leaf_count, count_none, next_count, next_why, same_count, filled_count, words_why}
 use Rattle.forest.proofs.Quiets.{done_quiet}
-use Rattle.forest.specs.Frames.{Live}
 use Rattle.forest.proofs.Bounds.{at_child, at_fits}
 use Rattle.forest.proofs.Rebuilds.{part_none, part_next, done_leaf, live_here, end_same, end_filled, none_marked, undo_child, undo_words}
 use Rattle.tree.proofs.builds.+build.Goals as goal

@@ -1,4 +1,4 @@
-use Rattle.std.proofs.Common.{◌≡◌, ℕ, ◌<◌, ◌≤◌, false, length, get_or}
+use Rattle.std.proofs.Common.{◌≡◌, ℕ, ◌≤◌, false, length, get_or}
 use Rattle.forest.specs.Frames.{Live}
 use Rattle.forest.proofs.Rebuilds.{Part}
 use Rattle.forest.proofs.Counts.{Counting}

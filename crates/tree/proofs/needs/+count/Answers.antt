@@ -1,6 +1,5 @@
-use Rattle.std.proofs.Common.{◌≡◌, ℕ, suc, ◌+◌, ◌-◌, ◌*◌, ◌<◌, sym, refl, ap, ◌∙◌, arith}
+use Rattle.std.proofs.Common.{ℕ, suc, ◌+◌, ◌-◌, ◌*◌, sym, refl, ap, ◌∙◌, arith}
 use Rattle.block.proofs.Sums.{sum_zero}
-use Rattle.forest.specs.Trees.{child}
 use Rattle.forest.specs.Plans.{changes, needed}
 use Rattle.forest.proofs.Bounds.{at_child, at_fits}
 use Rattle.forest.proofs.Quiets.{quiet_changes, quiet_needed}

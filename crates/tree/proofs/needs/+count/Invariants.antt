@@ -1,4 +1,4 @@
-use Rattle.std.proofs.Common.{◌≡◌, ℕ, suc, ◌+◌, ◌-◌, ◌*◌}
+use Rattle.std.proofs.Common.{◌≡◌, suc, ◌+◌, ◌-◌, ◌*◌}
 use Rattle.block.specs.Blocks.{sum_to}
 use Rattle.forest.specs.Trees.{child}
 use Rattle.forest.specs.Plans.{any_to, changes, needed}

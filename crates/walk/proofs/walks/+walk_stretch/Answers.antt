@@ -1,8 +1,7 @@
 use native.Mathlib.Omega.{arith}
-use mathlib.Core.Path.{◌≡◌, refl, sym, ap, ◌∙◌}
-use Prim.Native.Nat.{ℕ, ◌+◌, ◌-◌, ◌*◌, ◌^◌}
+use mathlib.Core.Path.{sym}
 use Rattle.forest.proofs.Bounds.{at_child, at_fits}
-use Rattle.walk.proofs.Stretches.{walk_clear, walk_blank, walk_cell, walk_more, walk_all}
+use Rattle.walk.proofs.Stretches.{walk_clear, walk_blank, walk_more, walk_all}
 use Rattle.walk.proofs.walks.+walk_stretch.Goals as goal
 
 pub overflow_mul-part : goal.overflow_mul-part

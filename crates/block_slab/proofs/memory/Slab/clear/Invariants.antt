@@ -1,5 +1,5 @@
 use Rattle.std.proofs.Common.{◌≡◌, ℕ, ◌<◌, length, get_or, drop}
-use Rattle.block_slab.specs.Held.{held, stands_on}
+use Rattle.block_slab.specs.Held.{held}
 use Rattle.block_slab.proofs.memory.Slab.clear.Given as goal
 
 abbrev pub invariant-loop-k : goal.invariant-loop-k

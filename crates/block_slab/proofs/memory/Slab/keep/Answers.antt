@@ -1,6 +1,6 @@
-use Rattle.std.proofs.Common.{◌≡◌, ℕ, ◌+◌, ◌-◌, ◌*◌, ◌<◌, ◌≤◌, get_or, set, sym, refl, ap, ◌∙◌, subst, arith}
+use Rattle.std.proofs.Common.{◌≡◌, ℕ, ◌+◌, ◌<◌, get_or, set, sym, refl, ap, ◌∙◌, subst, arith}
 use Rattle.block.proofs.Answered.{holders_told, keep_ok}
-use Rattle.layout.specs.Layout.{Fits, laid, past}
+use Rattle.layout.specs.Layout.{Fits, laid}
 use Rattle.layout.proofs.Layouts.{after_keep, cell_held, past_set_cell}
 use Rattle.layout.proofs.Fitting.{fits_kept}
 use Rattle.block_slab.proofs.memory.Slab.keep.Goals as goal

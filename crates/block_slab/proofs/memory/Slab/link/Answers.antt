@@ -1,4 +1,4 @@
-use Rattle.std.proofs.Common.{◌≡◌, ℕ, ◌*◌, ◌<◌, set, sym, refl, arith}
+use Rattle.std.proofs.Common.{◌*◌, ◌<◌, set, sym, refl, arith}
 use Rattle.std.proofs.lemmas.Bool.{lt-ltb, cond-true}
 use Rattle.layout.specs.Layout.{room}
 use Rattle.layout.proofs.Layouts.{after_link, past_set_word}

@@ -1,6 +1,6 @@
-use Rattle.std.proofs.Common.{◌≡◌, ℕ, ◌+◌, ◌-◌, ◌*◌, ◌<◌, ◌≤◌, get_or, set, sym, refl, ap, ◌∙◌, subst, arith}
+use Rattle.std.proofs.Common.{ℕ, set, sym, refl, ap, ◌∙◌, subst, arith}
 use Rattle.block.proofs.Answered.{put_ok}
-use Rattle.layout.specs.Layout.{Fits, laid, past}
+use Rattle.layout.specs.Layout.{Fits, laid}
 use Rattle.layout.proofs.Layouts.{after_put, cell_held, past_set_word}
 use Rattle.layout.proofs.Fitting.{fits_written}
 use Rattle.layout.proofs.Places.{placed}

@@ -1,6 +1,6 @@
-use Rattle.std.proofs.Common.{◌≡◌, ℕ, ◌+◌, ◌-◌, ◌*◌, ◌<◌, ◌≤◌, get_or, set, sym, refl, ap, ◌∙◌, subst, arith}
+use Rattle.std.proofs.Common.{◌≡◌, ℕ, ◌-◌, get_or, set, sym, refl, ap, ◌∙◌, subst, arith}
 use Rattle.block.proofs.Answered.{holders_told}
-use Rattle.layout.specs.Layout.{Fits, laid, past}
+use Rattle.layout.specs.Layout.{Fits, laid}
 use Rattle.layout.proofs.Layouts.{after_release, cell_held, past_set_cell}
 use Rattle.layout.proofs.Fitting.{fits_released}
 use Rattle.layout.proofs.Places.{release_told}

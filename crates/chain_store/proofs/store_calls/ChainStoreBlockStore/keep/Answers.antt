@@ -1,5 +1,4 @@
-use Rattle.std.proofs.Common.{◌≡◌, ℕ, ◌+◌, ◌-◌, ◌*◌, ◌<◌, ◌≤◌, List, [], ◌∷◌, length, get_or, set, sym, refl, ap, ◌∙◌, subst, ap₂, arith}
-use Rattle.block.specs.Blocks.{Blocks, free_count}
+use Rattle.std.proofs.Common.{ℕ, List, sym, ◌∙◌, subst}
 use Rattle.block_slab.specs.Held as slabs
 use Rattle.links.specs.Chain.{chain, Threads}
 use Rattle.chain_store.specs.Order.{held, order}

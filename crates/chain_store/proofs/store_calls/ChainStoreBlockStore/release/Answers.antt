@@ -1,5 +1,5 @@
-use Rattle.std.proofs.Common.{◌≡◌, ℕ, ◌+◌, ◌-◌, ◌<◌, ◌≤◌, List, [], ◌∷◌, Ok, sym, refl, ap, ◌∙◌, subst, arith}
-use Rattle.std.proofs.lemmas.Bool.{eq-eqb, ne_eqb, cond-true, cond-false}
+use Rattle.std.proofs.Common.{ℕ, ◌+◌, List, ◌∷◌, Ok, sym, ap, ◌∙◌, subst, arith}
+use Rattle.std.proofs.lemmas.Bool.{eq-eqb, cond-true}
 use Rattle.block.proofs.Answered.{release_ok}
 use Rattle.block.proofs.Counts.{count_most}
 use Rattle.block_slab.specs.Held as slabs
@@ -9,7 +9,7 @@ use Rattle.links.specs.Chain.{chain, Threads}
 use Rattle.chain_store.specs.Order.{held, order}
 use Rattle.links.proofs.Links.{length_chain}
 use Rattle.links.proofs.Threading.{listed_released}
-use Rattle.chain_store.proofs.Stores.{threads_of, Freed, freed_store}
+use Rattle.chain_store.proofs.Stores.{threads_of, freed_store}
 use Rattle.chain_store.proofs.store_calls.ChainStoreBlockStore.release.Goals as goal
 
 pub overflow_add-self : goal.overflow_add-self

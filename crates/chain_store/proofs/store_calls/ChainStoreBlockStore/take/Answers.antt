@@ -1,6 +1,5 @@
-use Rattle.std.proofs.Common.{◌≡◌, ℕ, ◌+◌, ◌-◌, ◌<◌, ◌≤◌, List, [], ◌∷◌, sym, refl, ap, ◌∙◌, subst, arith}
+use Rattle.std.proofs.Common.{◌-◌, sym, refl, ◌∙◌, arith}
 use Rattle.block.proofs.Counts.{none_left}
-use Rattle.links.specs.Chain.{Threads}
 use Rattle.chain_store.specs.Order.{held}
 use Rattle.links.proofs.Links.{length_chain}
 use Rattle.chain_store.proofs.Stores.{popped_store}

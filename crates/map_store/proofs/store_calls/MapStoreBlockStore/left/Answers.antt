@@ -1,4 +1,4 @@
-use Rattle.std.proofs.Common.{◌≡◌, arith}
+use Rattle.std.proofs.Common.{arith}
 use Rattle.block_slab.specs.Held.{held}
 use Rattle.marks.proofs.Marked.{ones_told}
 use Rattle.map_store.proofs.store_calls.MapStoreBlockStore.left.Goals as goal

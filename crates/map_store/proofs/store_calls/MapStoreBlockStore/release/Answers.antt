@@ -1,11 +1,10 @@
-use Rattle.std.proofs.Common.{◌≡◌, ℕ, ◌*◌, ◌/◌, ◌<◌, ◌≤◌, min, true, ◌≢◌, Ok, sym, refl, ap, ◌∙◌, subst, arith}
+use Rattle.std.proofs.Common.{◌≡◌, ◌<◌, ◌≢◌, Ok, sym, ap, ◌∙◌, subst, arith}
 use Rattle.block.specs.Blocks.{Blocks}
 use Rattle.block.proofs.Wholes.{out_below}
 use Rattle.block_slab.specs.Held.{held}
-use Rattle.layout.specs.Layout.{release_tells}
 use Rattle.layout.proofs.Places.{freed}
 use Rattle.layout.proofs.Wholes.{laid_whole}
-use Rattle.marks.specs.Map.{mark, Marks}
+use Rattle.marks.specs.Map.{Marks}
 use Rattle.marks.proofs.Marked.{freed_marks}
 use Rattle.map_store.proofs.store_calls.MapStoreBlockStore.release.Goals as goal
 

@@ -1,4 +1,4 @@
-use Rattle.std.proofs.Common.{◌≡◌, ℕ, ◌<◌, ◌≢◌, sym, ◌∙◌, subst, arith}
+use Rattle.std.proofs.Common.{◌≢◌, sym, ◌∙◌, subst, arith}
 use Rattle.std.proofs.lemmas.Bool.{lt-ltb, cond-true}
 use Rattle.block.specs.Blocks.{Blocks}
 use Rattle.block.specs.Calls.{taken}

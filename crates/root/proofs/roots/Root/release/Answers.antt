@@ -1,7 +1,6 @@
-use Rattle.std.proofs.Common.{◌≡◌, ◌-◌, sym, refl, ◌∙◌, arith}
+use Rattle.std.proofs.Common.{◌-◌, refl, arith}
 use Rattle.forest.proofs.Releases.{released_anyway}
 use Rattle.rules.specs.Cells.{depth}
-use Rattle.root.proofs.Edits.{depth_low}
 use Rattle.root.proofs.Words.{freed_more, freed_all}
 use Rattle.root.proofs.roots.Root.release.Goals as goal
 

@@ -1,4 +1,4 @@
-use Rattle.std.proofs.Common.{◌≡◌, sym, ap, ◌∙◌, arith}
+use Rattle.std.proofs.Common.{sym, ap, ◌∙◌, arith}
 use Rattle.table.specs.Tables.{under}
 use Rattle.table.proofs.Orders.{last_here, last_before}
 use Rattle.table.proofs.tables.Table.last_child.Goals as goal

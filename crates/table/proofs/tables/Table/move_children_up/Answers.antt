@@ -1,4 +1,4 @@
-use Rattle.std.proofs.Common.{◌≡◌, refl, arith}
+use Rattle.std.proofs.Common.{refl, arith}
 use Rattle.table.specs.Tables.{moved_up, vacant}
 use Rattle.table.proofs.Mapped.{same_length, mapped_more, mapped_all}
 use Rattle.table.proofs.tables.Table.move_children_up.Goals as goal

@@ -1,4 +1,4 @@
-use Rattle.std.proofs.Common.{◌≡◌, get_or, replicate, refl, ap, ◌∙◌}
+use Rattle.std.proofs.Common.{get_or, replicate, refl, ap, ◌∙◌}
 use Rattle.table.specs.Tables.{vacant}
 use Rattle.table.specs.declared.records.Snapshot.{Snapshot}
 use Rattle.table.proofs.Orders.{same_everywhere}

@@ -1,4 +1,4 @@
-use Rattle.std.proofs.Common.{◌≡◌, ◌≤◌}
+use Rattle.std.proofs.Common.{◌≡◌}
 use Rattle.table.proofs.Orders.{Struck}
 use Rattle.table.proofs.tables.Table.strike.Given as goal
 

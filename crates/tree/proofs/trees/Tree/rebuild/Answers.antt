@@ -1,4 +1,4 @@
-use Rattle.std.proofs.Common.{◌≡◌, ◌-◌, true, false, refl, subst, arith}
+use Rattle.std.proofs.Common.{◌-◌, refl, arith}
 use native.Mathlib.Nat.{one-le-pow}
 use Rattle.std.proofs.lemmas.Result.{err_from_is_err_and}
 use Rattle.forest.proofs.Promises.{rebuilt_fresh, rebuilt_same, refused}
