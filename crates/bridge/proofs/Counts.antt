@@ -4,7 +4,7 @@ use mathlib.Core.Path.{fun_ext}
 use native.Mathlib.Decide.{ℕ_discrete}
 use lib.Dec.{eqb_refl}
 use lib.ListN.{length-map}
-use Rattle.std.specs.List.{AllByRecursion as All}
+use Rattle.std.specs.List.{AllByRecursion}
 use Rattle.block.specs.Blocks.{sum_to}
 use Rattle.block.proofs.Sums.{sum_same}
 use Rattle.forest.specs.Plans.{any_to}
@@ -49,7 +49,7 @@ marks_ranged w h i (f ∷ es) s x a b l e t =
     (λ u. marks_ranged w h i es next x a b l.1 e.1 u)
     (in_either same_mark x (map (mark f.place) (keep free (touched w h f.edit s))) (marks w h es next) t)
 
-lines_ranged : (w h i : ℕ) (ps : List Snapshot) (x : Mark) → w ≤ 256 → h ≤ 256 → All (λ p. LineLayered p.line) ps → All (λ p. LineBefore i p.line) ps → In same_mark x (gather (λ p. marks w h p.line blank_sheet) ps) → Proper x.stretch × (x.place < i)
+lines_ranged : (w h i : ℕ) (ps : List Snapshot) (x : Mark) → w ≤ 256 → h ≤ 256 → AllByRecursion (λ p. LineLayered p.line) ps → AllByRecursion (λ p. LineBefore i p.line) ps → In same_mark x (gather (λ p. marks w h p.line blank_sheet) ps) → Proper x.stretch × (x.place < i)
 lines_ranged w h i [] x a b l e t = absurd t
 lines_ranged w h i (p ∷ ps) x a b l e t =
     ⊎_elim

@@ -1,7 +1,7 @@
 -- The digits of a cell's number.
 use Rattle.std.proofs.Common.{◌≡◌, ℕ, zero, suc, ◌+◌, ◌*◌, ◌/◌, ◌%◌, ◌^◌, ◌<◌, length, sym, refl, ap, ◌∙◌, subst, mod-eq_of_lt, mul_assoc, mul_comm, add-mul, pow-suc, arith, pow-add}
 use lib.Pow.{mod-pow-add}
-use Rattle.std.specs.List.{AllByRecursion as All}
+use Rattle.std.specs.List.{AllByRecursion}
 use Rattle.block.specs.Blocks.{Blocks}
 use Rattle.forest.specs.Trees.{digits, lookup}
 use Rattle.forest.specs.Rebuilds.{number, Reads}
@@ -10,7 +10,7 @@ pub length_digits : (k i : ℕ) → length (digits k i) ≡ k
 length_digits zero i = refl
 length_digits (suc k) i = ap suc (length_digits k i)
 
-all_digits : (k i : ℕ) → All (λ (d : ℕ). d < 16) (digits k i)
+all_digits : (k i : ℕ) → AllByRecursion (λ (d : ℕ). d < 16) (digits k i)
 all_digits zero i = tt
 all_digits (suc k) i = (omega arith, all_digits k i)
 

@@ -2,7 +2,7 @@
 use Rattle.std.proofs.Common.{◌≡◌, ℕ, zero, suc, ◌+◌, ◌*◌, ◌/◌, ◌^◌, ◌<◌, ◌≤◌, Bool, false, not, ◌||◌, ◌≢◌, List, [], ◌∷◌, length, sym, refl, ap, ◌∙◌, subst, mul-le-mul_right, mul_assoc, arith, eq-eqb, ne_eqb}
 use native.Mathlib.Nat.{div-eq_of_lt-le}
 use Rattle.forest.proofs.Digits.{power_suc}
-use Rattle.std.specs.List.{AllByRecursion as All}
+use Rattle.std.specs.List.{AllByRecursion}
 use Rattle.std.proofs.lemmas.Bool.{cond-false}
 use Rattle.block.specs.Blocks.{Blocks}
 use Rattle.forest.specs.Trees.{child, look}
@@ -25,7 +25,7 @@ within k a d l =
     let hi : a * 16 + d + 1 ≤ (a + 1) * 16 = omega arith in
     (omega (arith, mul-le-mul_right x lo), omega (arith, mul-le-mul_right x hi))
 
-range : (ds : List ℕ) (a : ℕ) → All (λ (d : ℕ). d < 16) ds → (a * 16 ^ length ds ≤ number a ds) × (number a ds < (a + 1) * 16 ^ length ds)
+range : (ds : List ℕ) (a : ℕ) → AllByRecursion (λ (d : ℕ). d < 16) ds → (a * 16 ^ length ds ≤ number a ds) × (number a ds < (a + 1) * 16 ^ length ds)
 range [] a ok = (omega arith, omega arith)
 range (d ∷ ds) a ok =
     let r = range ds (a * 16 + d) ok.1 in

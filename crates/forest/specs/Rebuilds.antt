@@ -11,7 +11,7 @@
 --   Why            why it was refused
 --   Dropped        the fresh ones of sixteen stretches were let go
 use Rattle.std.specs.Prelude.{◌≡◌, ℕ, zero, suc, ◌+◌, ◌*◌, ◌<◌, ◌≤◌, Bool, true, false, cond, List, [], ◌∷◌, length}
-use Rattle.std.specs.List.{AllByRecursion as All}
+use Rattle.std.specs.List.{AllByRecursion}
 use Rattle.block.specs.Blocks.{Blocks, sum_to, free_count}
 use Rattle.block.specs.declared.refusals.Refusal.{Refusal}
 use Rattle.block.specs.declared.refusals.Refusal.TheVariants.{NoneFree, NotOut, TooMany, NoWord}
@@ -25,7 +25,7 @@ number a [] = a
 number a (d ∷ ds) = number (a * 16 + d) ds
 
 abbrev pub Reads : (ℕ → ℕ → ℕ) → Blocks → Blocks → ℕ → ℕ → ℕ → ℕ → Type 0
-Reads new m n k p a q = (ds : List ℕ) → length ds ≡ k → All (λ (d : ℕ). d < 16) ds → look n q ds ≡ new (number a ds) (look m p ds)
+Reads new m n k p a q = (ds : List ℕ) → length ds ≡ k → AllByRecursion (λ (d : ℕ). d < 16) ds → look n q ds ≡ new (number a ds) (look m p ds)
 
 abbrev pub Stay : Blocks → (ℕ → Label) → (ℕ → Label) → Type 0
 Stay m label other = (c : ℕ) → 0 < m.holders c → other c ≡ label c

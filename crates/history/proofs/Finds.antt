@@ -1,17 +1,17 @@
 -- What holds of every snapshot, and the snapshot that is found by its number.
 use Rattle.std.proofs.Common.{◌≡◌, ℕ, Bool, true, false, cond, ◌||◌, T, eqb, List, [], ◌∷◌, ◌++◌, map, sym, refl, ap, ◌∙◌, subst, ⊎_elim, eqb→eq}
-use Rattle.std.specs.List.{AllByRecursion as All}
+use Rattle.std.specs.List.{AllByRecursion}
 use lib.Dec.{eqb_refl}
 use Rattle.rules.specs.Lists.{any, Once}
 use Rattle.rules.proofs.Tests.{or_left, or_right, or_either, is_false}
 use Rattle.rules.proofs.Members.{any_append}
 use Rattle.history.specs.Histories.{Snapshot, find}
 
-pub all_mono : {A : Type 0} {P Q : A → Type 0} → ((x : A) → P x → Q x) → (xs : List A) → All P xs → All Q xs
+pub all_mono : {A : Type 0} {P Q : A → Type 0} → ((x : A) → P x → Q x) → (xs : List A) → AllByRecursion P xs → AllByRecursion Q xs
 all_mono f [] a = tt
 all_mono f (x ∷ xs) a = (f x a.0, all_mono f xs a.1)
 
-pub all_push : {A : Type 0} (P : A → Type 0) (x : A) (xs : List A) → P x → All P xs → All P (xs ++ (x ∷ []))
+pub all_push : {A : Type 0} (P : A → Type 0) (x : A) (xs : List A) → P x → AllByRecursion P xs → AllByRecursion P (xs ++ (x ∷ []))
 all_push P x [] p a = (p, tt)
 all_push P x (y ∷ xs) p a = (a.0, all_push P x xs p a.1)
 
@@ -34,7 +34,7 @@ among_numbers s [] = refl
 among_numbers s (p ∷ ps) = ap (λ b. b || any (eqb s) (map (λ p. p.number) ps)) (eqb_sym s p.number) ∙ ap (λ b. eqb p.number s || b) (among_numbers s ps)
 
 -- the snapshot found, where there is one: what holds of each holds of it, and it has the number
-pub found_all : (P : Snapshot → Type 0) (other : Snapshot) (s : ℕ) (ps : List Snapshot) → All P ps → Among s ps → P (find other s ps)
+pub found_all : (P : Snapshot → Type 0) (other : Snapshot) (s : ℕ) (ps : List Snapshot) → AllByRecursion P ps → Among s ps → P (find other s ps)
 found_all P other s [] a l = absurd l
 found_all P other s (p ∷ ps) a l = go (found_all P other s ps a.1) (eqb p.number s) l
   where
@@ -51,7 +51,7 @@ found_number other s (p ∷ ps) l = go (found_number other s ps) (eqb p.number s
     go ih false e k = ih k
 
 -- where there may be none
-pub found_or : (P : Snapshot → Type 0) (other : Snapshot) (s : ℕ) (ps : List Snapshot) → P other → All P ps → P (find other s ps)
+pub found_or : (P : Snapshot → Type 0) (other : Snapshot) (s : ℕ) (ps : List Snapshot) → P other → AllByRecursion P ps → P (find other s ps)
 found_or P other s [] o a = o
 found_or P other s (p ∷ ps) o a = go (found_or P other s ps o a.1) (eqb p.number s)
   where

@@ -1,7 +1,7 @@
 -- What holds of every list of calls.
 use Rattle.std.proofs.Common.{◌≡◌, ℕ, suc, ◌+◌, Bool, true, false, cond, not, T, eqb, List, [], ◌∷◌, ◌++◌, map, length, sym, refl, ap, ◌∙◌, subst, ⊎_elim, append_assoc, append-nil, add-zero, add-suc, suc-add, zero-add, arith, eqb→eq, length-append, ltb-false}
 use mathlib.Core.Option.{Option, none, some}
-use Rattle.std.specs.List.{AllByRecursion as All}
+use Rattle.std.specs.List.{AllByRecursion}
 use lib.Dec.{eqb_refl}
 use Rattle.rules.specs.Lists.{any, keep, gather, Once}
 use Rattle.rules.specs.Refusals.{Refusal, no_change, no_blocks}
@@ -108,7 +108,7 @@ runs_counted n cs = sound_counted n (length cs) (run n cs) (runs_sound n cs)
 
 -- the entries of all snapshots of a list were made among the calls
 abbrev AllMade : List Call → List Snapshot → Type 0
-AllMade cs ps = All (λ p. All (Made cs) p.line) ps
+AllMade cs ps = AllByRecursion (λ p. AllByRecursion (Made cs) p.line) ps
 
 made_more : (cs ds : List Call) (e : Entry) → Made cs e → Made (cs ++ ds) e
 made_more cs ds e m = record {
@@ -127,7 +127,7 @@ all_made_rest : (cs : List Call) (s : ℕ) (up : Option ℕ) (ps : List Snapshot
 all_made_rest cs s up [] a = tt
 all_made_rest cs s up (p ∷ ps) a = go (all_made_rest cs s up ps a.1) (not (eqb p.number s))
   where
-    moved : (b : Bool) → All (Made cs) (cond b (record { number = p.number; parent = up; line = p.line }) p).line
+    moved : (b : Bool) → AllByRecursion (Made cs) (cond b (record { number = p.number; parent = up; line = p.line }) p).line
     moved true = a.0
     moved false = a.0
 
@@ -140,9 +140,9 @@ carried_made cs (start w t) h a = (tt, tt)
 carried_made cs (edit s e) h a =
     let entry : Entry = record { place = length cs; edit = e } in
     let old = all_made_more cs (edit s e ∷ []) h.live a in
-    all_push (λ p. All (Made (cs ++ (edit s e ∷ []))) p.line) (made (length cs) s e h) h.live
+    all_push (λ p. AllByRecursion (Made (cs ++ (edit s e ∷ []))) p.line) (made (length cs) s e h) h.live
     (all_push (Made (cs ++ (edit s e ∷ []))) entry (line_of h.head h) (record { before = cs; number = s; later = []; stands = refl; place = refl })
-    (found_or (λ p. All (Made (cs ++ (edit s e ∷ []))) p.line) first_snapshot h.head h.live tt old))
+    (found_or (λ p. AllByRecursion (Made (cs ++ (edit s e ∷ []))) p.line) first_snapshot h.head h.live tt old))
     old
 carried_made cs undo h a = all_made_more cs (undo ∷ []) h.live a
 carried_made cs redo h a = all_made_more cs (redo ∷ []) h.live a

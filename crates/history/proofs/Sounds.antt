@@ -2,7 +2,7 @@
 use Rattle.std.proofs.Common.{◌≡◌, ℕ, suc, ◌<◌, ◌≤◌, Bool, true, false, cond, not, ◌&&◌, ◌||◌, T, eqb, ltb, leb, List, [], ◌∷◌, ◌++◌, map, length, sym, refl, ap, ◌∙◌, subst, ⊎_elim, arith, eqb→eq, leb→le, ltb-false}
 use mathlib.Core.Option.{Option, none, some}
 use Rattle.std.proofs.lemmas.Bool.Decides.{eqb_tells}
-use Rattle.std.specs.List.{AllByRecursion as All}
+use Rattle.std.specs.List.{AllByRecursion}
 use lib.Dec.{eqb_refl, not_T}
 use Rattle.rules.specs.Lists.{any, keep, gather, distinct, Once}
 use Rattle.rules.specs.Sheets.{Edit, blank_sheet}
@@ -27,10 +27,10 @@ line_later i es b = all_mono (λ e l. omega arith) es b
 later : (i : ℕ) (h k : History) (p : Snapshot) → SoundSnapshot i h p → StandsWell k p → SoundSnapshot (suc i) k p
 later i h k p s t = record { low = s.low; before = line_later i p.line s.before; layered = s.layered; stands = t }
 
-pub all_before : (n i : ℕ) (h : History) → SoundHistory n i h → All (λ p. LineBefore i p.line) h.live
+pub all_before : (n i : ℕ) (h : History) → SoundHistory n i h → AllByRecursion (λ p. LineBefore i p.line) h.live
 all_before n i h sound = all_mono (λ p s. s.before) h.live sound.snapshots
 
-pub all_layered : (n i : ℕ) (h : History) → SoundHistory n i h → All (λ p. LineLayered p.line) h.live
+pub all_layered : (n i : ℕ) (h : History) → SoundHistory n i h → AllByRecursion (λ p. LineLayered p.line) h.live
 all_layered n i h sound = all_mono (λ p s. s.layered) h.live sound.snapshots
 
 pub line_of_before : (n i s : ℕ) (h : History) → SoundHistory n i h → LineBefore i (line_of s h)
@@ -238,11 +238,11 @@ module _ (n i s : ℕ) (h : History) (sound : SoundHistory n i h) (begun : T (st
   rest ps = map (moved_up s up) (keep stays ps)
 
   -- what holds of each snapshot that stays, moved up, holds of the rest
-  pub rest_all : (P Q : Snapshot → Type 0) → ((p : Snapshot) → P p → Q (moved_up s up p)) → (ps : List Snapshot) → All P ps → All Q (rest ps)
+  pub rest_all : (P Q : Snapshot → Type 0) → ((p : Snapshot) → P p → Q (moved_up s up p)) → (ps : List Snapshot) → AllByRecursion P ps → AllByRecursion Q (rest ps)
   rest_all P Q f [] a = tt
   rest_all P Q f (p ∷ ps) a = go (rest_all P Q f ps a.1) (stays p)
     where
-      go : All Q (rest ps) → (c : Bool) → All Q (map (moved_up s up) (cond c (p ∷ keep stays ps) (keep stays ps)))
+      go : AllByRecursion Q (rest ps) → (c : Bool) → AllByRecursion Q (map (moved_up s up) (cond c (p ∷ keep stays ps) (keep stays ps)))
       go ih true = (f p a.0, ih)
       go ih false = ih
 

@@ -2,7 +2,7 @@
 use Rattle.std.proofs.Common.{◌≡◌, ℕ, ◌<◌, Bool, true, false, cond, not, ◌||◌, T, eqb, ◌⊎◌, List, [], ◌∷◌, ◌++◌, map, length, sym, ap, ◌∙◌, subst, inl, inr, ⊎_elim, append_assoc, append-nil, arith, T_not, length-append}
 use lib.Dec.{not_T}
 use lib.ListN.{length-map}
-use Rattle.std.specs.List.{AllByRecursion as All}
+use Rattle.std.specs.List.{AllByRecursion}
 use Rattle.rules.specs.Lists.{any, keep, gather, distinct}
 use Rattle.rules.specs.Sheets.{Sheet, draw, drawn_on, tree_of, changed, blank_sheet}
 use Rattle.rules.specs.Stretches.{Stretch, same_stretch, stretches_of, touched}
@@ -74,7 +74,7 @@ module _ (w h : ℕ) where
   abbrev pub of : Snapshot → List Mark
   of p = marks w h p.line blank_sheet
 
-  marks_before : (i : ℕ) (m : Mark) (ps : List Snapshot) → All (λ p. LineBefore i p.line) ps → In same_mark m (gather of ps) → m.place < i
+  marks_before : (i : ℕ) (m : Mark) (ps : List Snapshot) → AllByRecursion (λ p. LineBefore i p.line) ps → In same_mark m (gather of ps) → m.place < i
   marks_before i m [] b t = absurd t
   marks_before i m (p ∷ ps) b t =
       ⊎_elim (λ u. mark_before i m p.line blank_sheet b.0 u) (λ u. marks_before i m ps b.1 u) (in_either same_mark m (of p) (gather of ps) t)

@@ -1,7 +1,7 @@
 -- What is proved of histories and of runs.
 use Rattle.std.specs.Prelude.{◌≡◌, ℕ, suc, ◌+◌, ◌<◌, ◌≤◌, T, ◌↔◌, List, [], ◌∷◌, ◌++◌, map, length, ◌==◌, ◌≢◌, nat_eq}
 use Rattle.std.proofs.Math.Option.{none, some}
-use Rattle.std.specs.List.{AllByRecursion as All}
+use Rattle.std.specs.List.{AllByRecursion}
 use Rattle.rules.specs.Lists.{any, Once}
 use Rattle.rules.specs.Sheets.{Edit, blank_sheet}
 use Rattle.rules.specs.Stretches.{Stretch, Proper}
@@ -25,11 +25,11 @@ pub record LastTouch (w h : ℕ) (line : List Entry) (q : Stretch) (e : Entry) :
 
 -- every edit of the line names a layer from 0 to 7, or none
 abbrev pub LineLayered : List Entry → Type 0
-LineLayered es = All (λ e. Layered e.edit) es
+LineLayered es = AllByRecursion (λ e. Layered e.edit) es
 
 -- every edit of the line was made before the call at place i
 abbrev pub LineBefore : ℕ → List Entry → Type 0
-LineBefore i es = All (λ e. e.place < i) es
+LineBefore i es = AllByRecursion (λ e. e.place < i) es
 
 -- the stretch of a mark is a proper one, and the edit at its place is the last of the line that changed a cell of it
 pub record Marks (w h : ℕ) (line : List Entry) (m : Mark) : Type 0 where
@@ -65,7 +65,7 @@ pub record SoundSnapshot (i : ℕ) (h : History) (p : Snapshot) : Type 0 where
 
 -- a history after i calls over n blocks
 pub record SoundHistory (n i : ℕ) (h : History) : Type 0 where
-  pub snapshots : All (SoundSnapshot i h) h.live
+  pub snapshots : AllByRecursion (SoundSnapshot i h) h.live
   -- no two live snapshots have one number
   pub once : Once nat_eq (map (λ p. p.number) h.live)
   pub begun : T (started h) → 1 ≤ i
@@ -97,13 +97,13 @@ pub record Made (cs : List Call) (e : Entry) : Type 0 where
   pub place : e.place ≡ length before
 
 abbrev pub RunsMade : Type 0
-RunsMade = (n : ℕ) (cs : List Call) → All (λ p. All (Made cs) p.line) (run n cs).live
+RunsMade = (n : ℕ) (cs : List Call) → AllByRecursion (λ p. AllByRecursion (Made cs) p.line) (run n cs).live
 
 -- THE NEED
 
 -- an edit of the head raises the count by exactly its need
 abbrev pub TakesNeed : Type 0
-TakesNeed = (h : History) (i s : ℕ) (e : Edit) → All (λ p. LineBefore i p.line) h.live → T (is_live h.head h)
+TakesNeed = (h : History) (i s : ℕ) (e : Edit) → AllByRecursion (λ p. LineBefore i p.line) h.live → T (is_live h.head h)
     → count (edited i s e h) ≡ count h + need_of e h
 
 -- over every run an accepted edit takes exactly its need of the blocks that are left

@@ -1,6 +1,6 @@
 -- A layer's box is the smallest rectangle round its inked dots.
 use Rattle.std.proofs.Common.{◌≤◌, List, [], ◌∷◌, refl, arith}
-use Rattle.std.specs.List.{AllByRecursion as All}
+use Rattle.std.specs.List.{AllByRecursion}
 use Rattle.rules.specs.Lines.{Point}
 use Rattle.rules.specs.Pictures.{wider, widened, box_of, inked}
 use Rattle.rules.specs.DrawLaws.{Between, Boxed, BoxSmallest}
@@ -10,11 +10,11 @@ grows b [] p t = t
 grows b (q ∷ qs) p t =
     grows (wider b q) qs p ((let a = t.0 in omega arith), (let a = t.1 in omega arith), (let a = t.2 in omega arith), (let a = t.3 in omega arith))
 
-round : (b : Point × Point) (qs : List Point) → b.0.0 ≤ b.1.0 → b.0.1 ≤ b.1.1 → All (Between (widened b qs).0 (widened b qs).1) qs
+round : (b : Point × Point) (qs : List Point) → b.0.0 ≤ b.1.0 → b.0.1 ≤ b.1.1 → AllByRecursion (Between (widened b qs).0 (widened b qs).1) qs
 round b [] l m = tt
 round b (q ∷ qs) l m = (grows (wider b q) qs q (omega arith, omega arith, omega arith, omega arith), round (wider b q) qs (omega arith) (omega arith))
 
-least : (b : Point × Point) (qs : List Point) (c d : Point) → Between c d b.0 → Between c d b.1 → All (Between c d) qs → Between c d (widened b qs).0 × Between c d (widened b qs).1
+least : (b : Point × Point) (qs : List Point) (c d : Point) → Between c d b.0 → Between c d b.1 → AllByRecursion (Between c d) qs → Between c d (widened b qs).0 × Between c d (widened b qs).1
 least b [] c d t u r = (t, u)
 least b (q ∷ qs) c d t u r =
     let k = r.0 in

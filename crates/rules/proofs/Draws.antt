@@ -1,7 +1,7 @@
 -- What drawing keeps.
 use Rattle.std.proofs.Common.{◌≡◌, ℕ, Bool, true, false, cond, not, ◌&&◌, T, eqb, List, [], ◌∷◌, refl, arith}
 use mathlib.Core.Option.{Option, none, some}
-use Rattle.std.specs.List.{AllByRecursion as All}
+use Rattle.std.specs.List.{AllByRecursion}
 use Rattle.std.proofs.lemmas.Bool.{ne_eqb}
 use lib.Dec.{eqb_refl}
 use Rattle.rules.specs.Dots.{Dot, Sound, blank, over, laid, faded, same_dot}
@@ -81,7 +81,7 @@ opacities_bytes w h (layer k o) s g old l = pick ByteOrNone (eqb l k) (some o) (
 pub draw_sound : (w h : ℕ) (e : Edit) (s : Sheet) → SoundEdit e → SoundSheet s → SoundSheet (draw w h e s)
 draw_sound w h e s g old = record { dots = dots_sound w h e s g old.dots; opacities = opacities_bytes w h e s g old.opacities }
 
-all_sound : (w h : ℕ) (es : List Edit) (s : Sheet) → All SoundEdit es → SoundSheet s → SoundSheet (drawn_on w h s es)
+all_sound : (w h : ℕ) (es : List Edit) (s : Sheet) → AllByRecursion SoundEdit es → SoundSheet s → SoundSheet (drawn_on w h s es)
 all_sound w h [] s g old = old
 all_sound w h (e ∷ es) s g old = all_sound w h es (draw w h e s) g.1 (draw_sound w h e s g.0 old)
 

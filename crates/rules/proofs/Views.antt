@@ -1,6 +1,6 @@
 -- The bytes of views.
 use Rattle.std.proofs.Common.{◌≡◌, ℕ, ◌+◌, ◌*◌, ◌/◌, ◌%◌, ◌<◌, ◌≤◌, Bool, true, false, cond, ltb, List, [], ◌∷◌, ◌++◌, map, get_or, refl, ap, ◌∙◌, mul_comm, arith, ltb-false, ltb-true}
-use Rattle.std.specs.List.{AllByRecursion as All}
+use Rattle.std.specs.List.{AllByRecursion}
 use lib.ListN.{length-map}
 use Rattle.rules.specs.Lists.{below, gather}
 use Rattle.rules.specs.Dots.{Dot, Sound}
@@ -19,19 +19,19 @@ row_lengths = record {
 }
 
 -- what holds of each byte of each dot holds of the row
-all_append : {A : Type 0} (P : A → Type 0) (xs ys : List A) → All P xs → All P ys → All P (xs ++ ys)
+all_append : {A : Type 0} (P : A → Type 0) (xs ys : List A) → AllByRecursion P xs → AllByRecursion P ys → AllByRecursion P (xs ++ ys)
 all_append P [] ys a b = b
 all_append P (x ∷ xs) ys a b = (a.0, all_append P xs ys a.1 b)
 
-all_gather : {A B : Type 0} (P : B → Type 0) (f : A → List B) → ((a : A) → All P (f a)) → (xs : List A) → All P (gather f xs)
+all_gather : {A B : Type 0} (P : B → Type 0) (f : A → List B) → ((a : A) → AllByRecursion P (f a)) → (xs : List A) → AllByRecursion P (gather f xs)
 all_gather P f k [] = tt
 all_gather P f k (x ∷ xs) = all_append P (f x) (gather f xs) (k x) (all_gather P f k xs)
 
-all_map : {A B : Type 0} (P : B → Type 0) (f : A → B) → ((a : A) → P (f a)) → (xs : List A) → All P (map f xs)
+all_map : {A B : Type 0} (P : B → Type 0) (f : A → B) → ((a : A) → P (f a)) → (xs : List A) → AllByRecursion P (map f xs)
 all_map P f k [] = tt
 all_map P f k (x ∷ xs) = (k x, all_map P f k xs)
 
-three : (d : Dot) → Sound d → All (λ b. b < 256) (paper_bytes d)
+three : (d : Dot) → Sound d → AllByRecursion (λ b. b < 256) (paper_bytes d)
 three d s = (byte (paper_byte d.red d s s.red_covered), (byte (paper_byte d.green d s s.green_covered), (byte (paper_byte d.blue d s s.blue_covered), tt)))
   where
     byte : {b : ℕ} → b ≤ 255 → b < 256
@@ -49,7 +49,7 @@ mask_bits s y k b l = binary_back 8 (λ i. s.protected (8 * k + i) y) b l
 
 -- a text of digits that spells n
 record Spells (n : ℕ) (text : List ℕ) : Type 0 where
-  digits : All (λ c. (48 ≤ c) × (c ≤ 57)) text
+  digits : AllByRecursion (λ c. (48 ≤ c) × (c ≤ 57)) text
   spells : spelt 0 text ≡ n
   first : get_or text 0 48 ≡ 48 → n ≡ 0
 

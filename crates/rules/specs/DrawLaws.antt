@@ -2,7 +2,7 @@
 use Rattle.std.specs.Prelude.{◌≡◌, ℕ, ◌/◌, ◌^◌, ◌<◌, ◌≤◌, Bool, false, not, T, ◌↔◌, List, [], ◌≢◌, nat_eq}
 use Rattle.std.proofs.Math.Option.{Option, none, some}
 use Rattle.rules.specs.Pictures.{inked, box, flat_dot}
-use Rattle.std.specs.List.{AllByRecursion as All}
+use Rattle.std.specs.List.{AllByRecursion}
 use Rattle.rules.specs.Lists.{any}
 use Rattle.rules.specs.Dots.{Sound, blank}
 use Rattle.rules.specs.Cells.{depth}
@@ -50,7 +50,7 @@ pub record SoundSheet (s : Sheet) : Type 0 where
 
 -- drawing sound edits gives a sound sheet
 abbrev pub DrawnSound : Type 0
-DrawnSound = (w h : ℕ) (es : List Edit) → All SoundEdit es → SoundSheet (drawn w h es)
+DrawnSound = (w h : ℕ) (es : List Edit) → AllByRecursion SoundEdit es → SoundSheet (drawn w h es)
 
 -- and a sound sheet has sound flat dots
 abbrev pub FlatSound : Type 0
@@ -99,7 +99,7 @@ Between c d p = (c.0 ≤ p.0) × (c.1 ≤ p.1) × (p.0 ≤ d.0) × (p.1 ≤ d.1)
 -- a box holds all the points, every rectangle that does holds the box, and there is none only where there is no point
 abbrev pub Boxed : List Point → Option (Point × Point) → Type 0
 Boxed ps none = ps ≡ []
-Boxed ps (some b) = All (Between b.0 b.1) ps × ((c d : Point) → All (Between c d) ps → Between c d b.0 × Between c d b.1)
+Boxed ps (some b) = AllByRecursion (Between b.0 b.1) ps × ((c d : Point) → AllByRecursion (Between c d) ps → Between c d b.0 × Between c d b.1)
 
 abbrev pub BoxSmallest : Type 0
 BoxSmallest = (w h : ℕ) (s : Sheet) (l : ℕ) → Boxed (inked w h s l) (box w h s l)

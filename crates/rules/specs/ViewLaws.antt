@@ -1,6 +1,6 @@
 -- What is proved of the bytes of views.
 use Rattle.std.specs.Prelude.{◌≡◌, ℕ, ◌+◌, ◌-◌, ◌*◌, ◌/◌, ◌<◌, ◌≤◌, List, [], ◌∷◌, length, slice_index_or}
-use Rattle.std.specs.List.{AllByRecursion as All}
+use Rattle.std.specs.List.{AllByRecursion}
 use Rattle.rules.specs.Lists.{binary_digit}
 use Rattle.rules.specs.Sheets.{Sheet}
 use Rattle.rules.specs.Bytes.{Kind, colour, mask, decimal, row_bytes, mask_byte}
@@ -13,7 +13,7 @@ spelt v (c ∷ cs) = spelt (10 * v + (c - 48)) cs
 
 -- a decimal is made of digits, spells its number, and begins with 0 only where it is 0
 pub record Decimal (n : ℕ) : Type 0 where
-  pub digits : All (λ c. (48 ≤ c) × (c ≤ 57)) (decimal n)
+  pub digits : AllByRecursion (λ c. (48 ≤ c) × (c ≤ 57)) (decimal n)
   pub spells : spelt 0 (decimal n) ≡ n
   pub first : slice_index_or (decimal n) 0 48 ≡ 48 → n ≡ 0
 
@@ -27,7 +27,7 @@ pub record RowLengths : Type 0 where
 
 -- what a row of a sound sheet holds are bytes
 abbrev pub RowsBytes : Type 0
-RowsBytes = (kind : Kind) (w : ℕ) (s : Sheet) (y : ℕ) → SoundSheet s → All (λ b. b < 256) (row_bytes kind w s y)
+RowsBytes = (kind : Kind) (w : ℕ) (s : Sheet) (y : ℕ) → SoundSheet s → AllByRecursion (λ b. b < 256) (row_bytes kind w s y)
 
 -- bit b of byte k of a mask row, from the highest, tells whether dot 8 × k + b is protected
 abbrev pub MaskBits : Type 0

@@ -4,7 +4,7 @@ use mathlib.Core.Option.{Option, none, some}
 use Rattle.rules.specs.Refusals.{Refusal, Ground, first, numbers}
 use Rattle.standing.specs.States.{verdict}
 
-some_not_none : {A : Type 0} {x : A} → some x ≡ none → ⊥
+pub some_not_none : {A : Type 0} {x : A} → some x ≡ none → ⊥
 some_not_none e = let z : ◌≡◌ {A = ℕ} 0 1 = cc in omega arith
 
 -- the numbers of a refusal, or none

@@ -1,4 +1,3 @@
 pub mod Grounds
 pub mod Steps
 pub mod Orders
-pub mod Heads

@@ -1,7 +1,7 @@
 -- Of snapshots that stand in the order of their making the one made latest is the last.
 use Rattle.std.proofs.Common.{◌≡◌, ℕ, ◌<◌, Bool, true, false, cond, eqb, ltb, List, [], ◌∷◌, map, Some, None, sym, refl, ap, ◌∙◌, subst, ap₂, lt-ltb}
 use mathlib.Core.Option.{Option, none, some}
-use Rattle.std.specs.List.{AllByRecursion as All}
+use Rattle.std.specs.List.{AllByRecursion}
 use Rattle.std.specs.declared.option.Option as option
 use Rattle.rules.specs.Lists.{keep}
 use Rattle.history.specs.Histories.{Snapshot, last_place, stands_under, latest_from, latest}
@@ -9,6 +9,7 @@ use Rattle.calls.specs.Told.{maybe}
 use Rattle.table.specs.Tables.{at, is_number, under, or_else, last_under}
 use Rattle.table.specs.declared.records.Snapshot as table
 use Rattle.standing.specs.Standing.{Ordered}
+use Rattle.standing.proofs.Grounds.{some_not_none}
 
 -- the last of p and some others
 abbrev last_from : Snapshot → List Snapshot → Snapshot
@@ -20,11 +21,11 @@ last_is_latest p [] o = refl
 last_is_latest p (q ∷ qs) o =
     ap (λ b. latest_from (cond b q p) qs) (lt-ltb (last_place p.line) (last_place q.line) o.0.0) ∙ last_is_latest q qs o.1
 
-keep_all : {A : Type 0} (P : A → Type 0) (f : A → Bool) (xs : List A) → All P xs → All P (keep f xs)
+keep_all : {A : Type 0} (P : A → Type 0) (f : A → Bool) (xs : List A) → AllByRecursion P xs → AllByRecursion P (keep f xs)
 keep_all P f [] a = tt
 keep_all {A} P f (x ∷ xs) a = go (f x) (keep_all P f xs a.1)
   where
-    go : (b : Bool) → All P (keep f xs) → All P (cond b (x ∷ keep f xs) (keep f xs))
+    go : (b : Bool) → AllByRecursion P (keep f xs) → AllByRecursion P (cond b (x ∷ keep f xs) (keep f xs))
     go true r = (a.0, r)
     go false r = r
 
@@ -54,12 +55,6 @@ last_number (p ∷ ps) = some (last_from p ps).number
 
 or_last : (o : option.Option ℕ) (q : ℕ) (ps : List Snapshot) (p : Snapshot) → p.number ≡ q → maybe o ≡ last_number ps → maybe (or_else o (Some q)) ≡ last_number (p ∷ ps)
 or_last None q [] p e f = ap some (sym e)
-or_last (Some r) q [] p e f = absurd_some f
-  where
-    absurd_some : some r ≡ none → some r ≡ some p.number
-    absurd_some g = g ∙ sym g ∙ absurd_none g
-      where
-        absurd_none : some r ≡ none → some r ≡ some p.number
-        absurd_none x = cc
-or_last None q (r ∷ ps) p e f = f
+or_last (Some r) q [] p e f = absurd (some_not_none f)
+or_last None q (r ∷ ps) p e f = absurd (some_not_none (sym f))
 or_last (Some t) q (r ∷ ps) p e f = f

@@ -5,7 +5,7 @@
 --   Inked      every edit of a line has a sound ink, or an opacity that is a byte
 --   Kept       what a canvas holds after i calls over n blocks stands for a history
 use Rattle.std.specs.Prelude.{◌≡◌, ℕ, ◌<◌, true, false, not, List, [], ◌∷◌, map, length, Some, None, Option, ◌==◌}
-use Rattle.std.specs.List.{AllByRecursion as All}
+use Rattle.std.specs.List.{AllByRecursion}
 use Rattle.rules.specs.Cells.{depth}
 use Rattle.rules.specs.Sheets.{word_of}
 use Rattle.rules.specs.DrawLaws.{SoundEdit}
@@ -25,10 +25,10 @@ Sized (Some z) h = (started h ≡ true) × (z.width ≡ h.width) × (z.height �
 -- the place of a snapshot's last edit is that of its making
 abbrev pub Ordered : List Snapshot → Type 0
 Ordered [] = Unit {0}
-Ordered (p ∷ ps) = All (λ q. last_place p.line < last_place q.line) ps × Ordered ps
+Ordered (p ∷ ps) = AllByRecursion (λ q. last_place p.line < last_place q.line) ps × Ordered ps
 
 abbrev pub Inked : List Entry → Type 0
-Inked es = All (λ e. SoundEdit e.edit) es
+Inked es = AllByRecursion (λ e. SoundEdit e.edit) es
 
 pub record Kept (n i : ℕ) (c : State) (h : History) : Type 0 where
   pub whole : c.blocks.size ≡ n
@@ -37,10 +37,10 @@ pub record Kept (n i : ℕ) (c : State) (h : History) : Type 0 where
   pub shows : Shows depth places c.blocks (root_of c.snapshots) (λ s. word_of (sheet_of s h)) (last_edits h)
   -- a number has a root block just where it is live
   pub live : (s : ℕ) → s < places → (root_of c.snapshots s == 0) ≡ not (is_live s h)
-  pub parents : All (λ p. maybe (at c.snapshots p.number).parent ≡ p.parent) h.live
+  pub parents : AllByRecursion (λ p. maybe (at c.snapshots p.number).parent ≡ p.parent) h.live
   pub made : c.made ≡ map (λ p. p.number) h.live
   pub size : Sized c.size h
   pub head : c.head ≡ h.head
   pub sound : SoundHistory n i h
   pub ordered : Ordered h.live
-  pub inked : All (λ p. Inked p.line) h.live
+  pub inked : AllByRecursion (λ p. Inked p.line) h.live
