@@ -2,6 +2,7 @@
 # Times look-ups and one-cell rebuilds of the proved trees against the same algorithm in C (gcc -O2).
 set -e
 cd "$(dirname "$0")/../.."
-rt staticlib tree_bench
-gcc -O2 -o target/trees_bench bench/trees/trees.c target/staticlib/libtree_bench.a
+(cd crates/tree_bench && rt lib)
+mkdir -p target
+gcc -O2 -o target/trees_bench bench/trees/trees.c crates/tree_bench/out/libtree_bench.a
 target/trees_bench
