@@ -3,11 +3,7 @@
 
 use block::BlockStore;
 use map_store::MapStore;
-
-// The next of a row of numbers without a pattern.
-fn next(x: u32) -> u32 {
-    x.wrapping_mul(1664525).wrapping_add(1013904223)
-}
+use scattered::Scattered;
 
 // Takes block after block, at most so many; the answer is the sum of their numbers.
 fn take_some<S: BlockStore>(store: &mut S, most: u32) -> u32 {
@@ -22,10 +18,8 @@ fn take_some<S: BlockStore>(store: &mut S, most: u32) -> u32 {
 }
 
 fn get_some<S: BlockStore>(store: &S, count: u32) -> u32 {
-    let mut x = 1;
     let mut sum = 0u32;
-    for _ in 0..count {
-        x = next(x);
+    for x in (Scattered { last: 1 }).take(count as usize) {
         if let Ok(w) = store.get(x >> 18, (x >> 8) % 16) {
             sum = sum.wrapping_add(w);
         }
@@ -34,9 +28,7 @@ fn get_some<S: BlockStore>(store: &S, count: u32) -> u32 {
 }
 
 fn put_some<S: BlockStore>(store: &mut S, count: u32) {
-    let mut x = 7;
-    for _ in 0..count {
-        x = next(x);
+    for x in (Scattered { last: 7 }).take(count as usize) {
         let _ = store.put(x >> 18, (x >> 8) % 16, x);
     }
 }

@@ -3,12 +3,8 @@
 
 use block::BlockStore;
 use map_store::MapStore;
+use scattered::Scattered;
 use tree::{OneCell, Tree};
-
-// The next of a row of numbers without a pattern.
-fn next(x: u32) -> u32 {
-    x.wrapping_mul(1664525).wrapping_add(1013904223)
-}
 
 // The tree with another word at an index, in place of the old one.
 fn put<S: BlockStore>(store: &mut S, top: u32, index: u32, word: u32) -> u32 {
@@ -26,9 +22,7 @@ fn put<S: BlockStore>(store: &mut S, top: u32, index: u32, word: u32) -> u32 {
 // A tree with so many puts at indices without a pattern, by its top.
 fn planted<S: BlockStore>(store: &mut S, count: u32) -> u32 {
     let mut top = 0;
-    let mut x = 7;
-    for _ in 0..count {
-        x = next(x);
+    for x in (Scattered { last: 7 }).take(count as usize) {
         top = put(store, top, x >> 16, x | 1);
     }
     top
@@ -47,10 +41,8 @@ pub extern "C" fn tree_look_ups(
         depth: 4,
         top: planted(&mut store, planted_cells),
     };
-    let mut x = 1;
     let mut sum = 0u32;
-    for _ in 0..count {
-        x = next(x);
+    for x in (Scattered { last: 1 }).take(count as usize) {
         sum = sum.wrapping_add(tree.word_at(&store, x >> 16));
     }
     sum
