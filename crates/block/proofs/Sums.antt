@@ -1,5 +1,7 @@
 -- Sums over the numbers below n.
-use Rattle.std.proofs.Common.{◌≡◌, ℕ, zero, suc, ◌+◌, ◌<◌, ◌≤◌, ◌≢◌, refl, ap, ◌∙◌, add-one, arith}
+use Rattle.std.proofs.Common.{◌≡◌, ℕ, zero, suc, ◌+◌, ◌<◌, ◌≤◌, ◌≢◌, List, length, get_or, take, refl, ap, ◌∙◌, add-one, arith}
+use Rattle.std.specs.List.{sum_by}
+use Rattle.std.proofs.lemmas.List.Sums.{sum_by_more}
 use native.Mathlib.Decide.{ℕ_discrete}
 use Rattle.block.specs.Blocks.{sum_to}
 
@@ -60,3 +62,11 @@ pub sum_count : (n : ℕ) (f : ℕ → ℕ) → ((j : ℕ) → j < n → f j ≡
 unfolding sum_to
 sum_count zero f h = refl
 sum_count (suc n) f h = omega (arith, h n (omega arith), sum_count n f (λ j l. h j (omega arith)))
+
+-- a sum over the first n items of a list
+pub sum_taken : (f : ℕ → ℕ) (xs : List ℕ) (n : ℕ) → n ≤ length xs → sum_by f (take n xs) ≡ sum_to n (λ k. f (get_or xs k 0))
+unfolding sum_to
+sum_taken f xs zero l = refl
+sum_taken f xs (suc n) l =
+    let e : suc n ≡ n + 1 = omega arith in
+    ap (λ (x : ℕ). sum_by f (take x xs)) e ∙ omega (arith, sum_by_more f xs n 0 (omega arith), sum_taken f xs n (omega arith))

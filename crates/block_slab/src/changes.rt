@@ -2,7 +2,7 @@
 ghost use Rattle.std.specs.Prelude.{◌≡◌, ◌+◌, ◌-◌, ◌*◌, is_ok, if◌then◌else◌, nat_lt, slice_index, slice_set};
 ghost use Rattle.block.specs.Blocks.{all_free};
 ghost use Rattle.block.specs.Calls.{keep_answer, kept, put_answer, released, taken, written};
-ghost use Rattle.layout.specs.Layout.{Claimed, Cleared, Fits, release_tells};
+ghost use Rattle.layout.specs.Layout.{Claimed, Cleared, release_tells};
 ghost use Rattle.block_slab.specs.Held.{held, stands_on};
 
 use crate::memory::Slab;
@@ -14,11 +14,10 @@ impl Slab<'_> {
         ensures answer { result ≡ put_answer (held self.old) b i }
         ensures after { held self.new ≡ (if is_ok result then written (held self.old) b i w else held self.old) }
         ensures stays { stands_on self.new ≡ stands_on self.old }
-        ensures fits { Fits (held self.old) → Fits (held self.new) }
         ensures words { self.new.words.now ≡ (if is_ok result then slice_set self.old.words.now (16 * b + i) w else self.old.words.now) }
         ensures cells { self.new.cells.now ≡ self.old.cells.now }
     {
-        let k = self.word_at(b, i)?;
+        let k = self.view().word_at(b, i)?;
         self.words[k] = w;
         Ok(())
     }
@@ -28,11 +27,10 @@ impl Slab<'_> {
         ensures answer { result ≡ keep_answer (held self.old) b }
         ensures after { held self.new ≡ (if is_ok result then kept (held self.old) b else held self.old) }
         ensures stays { stands_on self.new ≡ stands_on self.old }
-        ensures fits { Fits (held self.old) → Fits (held self.new) }
         ensures words { self.new.words.now ≡ self.old.words.now }
         ensures cells { self.new.cells.now ≡ (if is_ok result then slice_set self.old.cells.now b (slice_index self.old.cells.now b + 1) else self.old.cells.now) }
     {
-        let held = self.holders(b)?;
+        let held = self.view().holders(b)?;
         if held == u16::MAX {
             return Err(Refusal::TooMany);
         }
@@ -45,11 +43,10 @@ impl Slab<'_> {
         ensures answer { result ≡ release_tells (held self.old) b }
         ensures after { held self.new ≡ (if is_ok result then released (held self.old) b else held self.old) }
         ensures stays { stands_on self.new ≡ stands_on self.old }
-        ensures fits { Fits (held self.old) → Fits (held self.new) }
         ensures words { self.new.words.now ≡ self.old.words.now }
         ensures cells { self.new.cells.now ≡ (if is_ok result then slice_set self.old.cells.now b (slice_index self.old.cells.now b - 1) else self.old.cells.now) }
     {
-        let held = self.holders(b)?;
+        let held = self.view().holders(b)?;
         self.cells[b as usize] = held - 1;
         Ok(held == 1)
     }
@@ -58,11 +55,10 @@ impl Slab<'_> {
     pub fn claim(&mut self, b: u32)
         ensures after { held self.new ≡ (if nat_lt b (held self.old).size then taken (held self.old) b else held self.old) }
         ensures stays { stands_on self.new ≡ stands_on self.old }
-        ensures fits { Fits (held self.old) → Fits (held self.new) }
         ensures cells { Claimed self.old.words.now self.old.cells.now b self.new.words.now self.new.cells.now }
     {
         let k = b as usize;
-        if k < self.size() {
+        if k < self.view().size() {
             self.words[16 * k..16 * k + 16].copy_from_slice(&[0; 16]);
             self.cells[k] = 1;
         }
@@ -72,13 +68,11 @@ impl Slab<'_> {
     pub fn clear(&mut self)
         ensures after { held self.new ≡ all_free (held self.old).size }
         ensures stays { stands_on self.new ≡ stands_on self.old }
-        ensures fits { Fits (held self.new) }
         ensures words { self.new.words.now ≡ self.old.words.now }
         ensures cells { Cleared (held self.old).size self.old.cells.now self.new.cells.now }
     {
-        for k in 0..self.size() {
-            self.cells[k] = 0;
-        }
+        let size = self.view().size();
+        self.cells[..size].fill(0);
     }
 
     // Writes a number into the first word of block b, where nobody sees it while the block is free.
@@ -89,7 +83,7 @@ impl Slab<'_> {
         ensures cells { self.new.cells.now ≡ self.old.cells.now }
     {
         let k = b as usize;
-        if k < self.size() {
+        if k < self.view().size() {
             self.words[16 * k] = next;
         }
     }

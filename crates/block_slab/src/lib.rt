@@ -6,6 +6,7 @@
 mod changes;
 mod memory;
 mod reads;
+mod views;
 
 pub use memory::Slab;
-pub use reads::{get, holders, left, size};
+pub use views::SlabView;

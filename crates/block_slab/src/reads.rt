@@ -1,67 +1,80 @@
 // Questions about blocks in memory that is only read.
-ghost use Rattle.std.specs.Prelude.{◌≡◌, ◌<◌, not, T};
+ghost use Rattle.std.specs.Prelude.{◌≡◌, ◌*◌, ◌<◌, if◌then◌else◌, nat_lt, not, slice_index, T};
 ghost use Rattle.block.specs.Blocks.{free_count, is_free};
 ghost use Rattle.block.specs.Calls.{get_answer, holders_answer};
-ghost use Rattle.layout.specs.Layout.{laid, place_answer, room};
+ghost use Rattle.layout.specs.Layout.{place_answer, room};
+ghost use Rattle.block_slab.specs.Held.{shown};
 
+use crate::views::SlabView;
 use block::Refusal;
 
-// How many blocks the memory has room for: at most 16,384.
-pub fn size(words: &[u32], cells: &[u16]) -> usize
-    ensures { result ≡ room words.now cells.now }
-{
-    (words.len() / 16).min(cells.len()).min(16384)
-}
-
-// Whether block b is out.
-pub(crate) fn is_out(words: &[u32], cells: &[u16], b: u32) -> bool
-    ensures value { result ≡ not (is_free (laid words.now cells.now) b) }
-    ensures below { T result → b < room words.now cells.now }
-{
-    let k = b as usize;
-    k < size(words, cells) && cells[k] > 0
-}
-
-// Where word i of block b lies among the words.
-pub(crate) fn word_at(words: &[u32], cells: &[u16], b: u32, i: u32) -> Result<usize, Refusal>
-    ensures { result ≡ place_answer (laid words.now cells.now) b i }
-{
-    if !is_out(words, cells, b) {
-        return Err(Refusal::NotOut);
+impl SlabView<'_> {
+    // How many blocks the memory has room for: at most 16,384.
+    pub fn size(&self) -> usize
+        ensures { result ≡ room self.now.words.now self.now.cells.now }
+    {
+        (self.words.len() / 16).min(self.cells.len()).min(16384)
     }
-    if i > 15 {
-        return Err(Refusal::NoWord);
+
+    // Whether block b is out.
+    fn is_out(&self, b: u32) -> bool
+        ensures value { result ≡ not (is_free (shown self.now) b) }
+        ensures below { T result → b < (shown self.now).size }
+    {
+        let k = b as usize;
+        k < self.size() && self.cells[k] > 0
     }
-    Ok(16 * b as usize + i as usize)
-}
 
-// Word i of block b.
-pub fn get(words: &[u32], cells: &[u16], b: u32, i: u32) -> Result<u32, Refusal>
-    ensures { result ≡ get_answer (laid words.now cells.now) b i }
-{
-    let k = word_at(words, cells, b, i)?;
-    Ok(words[k])
-}
-
-// How many hold block b.
-pub fn holders(words: &[u32], cells: &[u16], b: u32) -> Result<u16, Refusal>
-    ensures { result ≡ holders_answer (laid words.now cells.now) b }
-{
-    if !is_out(words, cells, b) {
-        return Err(Refusal::NotOut);
+    // Where word i of block b lies among the words.
+    pub(crate) fn word_at(&self, b: u32, i: u32) -> Result<usize, Refusal>
+        ensures { result ≡ place_answer (shown self.now) b i }
+    {
+        if !self.is_out(b) {
+            return Err(Refusal::NotOut);
+        }
+        if i > 15 {
+            return Err(Refusal::NoWord);
+        }
+        Ok(16 * b as usize + i as usize)
     }
-    Ok(cells[b as usize])
-}
 
-// How many blocks are free.
-pub fn left(words: &[u32], cells: &[u16]) -> u32
-    ensures { result ≡ free_count (laid words.now cells.now) }
-{
-    let mut free = 0;
-    for k in 0..size(words, cells) {
-        if cells[k] == 0 {
-            free += 1;
+    // Word i of block b.
+    pub fn get(&self, b: u32, i: u32) -> Result<u32, Refusal>
+        ensures { result ≡ get_answer (shown self.now) b i }
+    {
+        let k = self.word_at(b, i)?;
+        Ok(self.words[k])
+    }
+
+    // How many hold block b.
+    pub fn holders(&self, b: u32) -> Result<u16, Refusal>
+        ensures { result ≡ holders_answer (shown self.now) b }
+    {
+        if !self.is_out(b) {
+            return Err(Refusal::NotOut);
+        }
+        Ok(self.cells[b as usize])
+    }
+
+    // How many blocks are free.
+    pub fn left(&self) -> u32
+        ensures { result ≡ free_count (shown self.now) }
+    {
+        self.cells[..self.size()]
+            .iter()
+            .filter(|held| **held == 0)
+            .count() as u32
+    }
+
+    // The number that stands in the first word of block b: 0 where there is no such block.
+    pub fn linked(&self, b: u32) -> u32
+        ensures { result ≡ (if nat_lt b (shown self.now).size then slice_index self.now.words.now (16 * b) else 0) }
+    {
+        let k = b as usize;
+        if k < self.size() {
+            self.words[16 * k]
+        } else {
+            0
         }
     }
-    free
 }

@@ -4,7 +4,7 @@ use Rattle.std.proofs.lemmas.List.{get_or-set_same}
 use Rattle.std.proofs.lemmas.Bool.{lt-ltb, cond-true}
 use Rattle.std.proofs.lemmas.Bool.Decides.{nat_tests}
 use Rattle.block.specs.declared.refusals.Refusal.{Refusal}
-use Rattle.block.specs.Blocks.{Blocks, is_free}
+use Rattle.block.specs.Blocks.{Blocks, is_free, free_count}
 use Rattle.block.specs.Calls.{refused_if, keep_answer, put_answer, kept, released, taken, written}
 use Rattle.block.proofs.Answered.{accepted, free_false}
 use Rattle.block.proofs.Wholes.{out_below}
@@ -19,14 +19,9 @@ use Rattle.chain_store.specs.declared.store.ChainStore.{ChainStore}
 use Rattle.links.proofs.Links.{length_chain, chain_more, chain_first, chain_set, chain_claimed}
 use Rattle.links.proofs.Threading.{not_listed, listed_kept, listed_written, listed_freed, listed_taken}
 
--- what always holds of a store, put together
-pub threads_of : (s : ChainStore) → Threads (order s) (held s)
-threads_of s = record {
-  inside = s.inside;
-  unheld = s.unheld;
-  apart = s.apart;
-  counted = length_chain s.slab.words.now s.top s.free ∙ s.counted;
-}
+-- as many are free as are counted
+pub free_counted : (s : ChainStore) → s.free ≡ free_count (held s)
+free_counted s = sym (length_chain s.slab.words.now s.top s.free) ∙ s.threads.counted
 
 pub kept_threads : (os : List ℕ) (m : Blocks) (b : ℕ) (r : Result Unit Refusal) → r ≡ keep_answer m b → Threads os m → Threads os (cond (is_ok r) (kept m b) m)
 kept_threads os m b (Ok x) e t =
@@ -75,7 +70,7 @@ freed_store s b u v last rel same_words link link-words =
     let ws : List ℕ = s.slab.words.now in
     let hs : List ℕ = s.slab.cells.now in
     let out : 0 < m.holders b = omega arith in
-    let below : b < m.size = out_below m b (laid_whole ws hs s.fits) out in
+    let below : b < m.size = out_below m b (laid_whole ws hs s.slab.fits) out in
     let none : (released m b).holders b ≡ 0 = grind (arith, nat_tests) in
     let after : slabs.held v ≡ released m b = link (ap (λ (x : Blocks). x.holders b) rel ∙ none) ∙ rel in
     let size : (slabs.held u).size ≡ m.size = ap (λ (x : Blocks). x.size) rel in
@@ -85,13 +80,13 @@ freed_store s b u v last rel same_words link link-words =
     ∙ ap (λ (x : List ℕ). set x (16 * b) s.top) same_words in
     let pushed : chain v.words.now b (s.free + 1) ≡ b ∷ order s =
     ap (λ (x : List ℕ). chain x b (s.free + 1)) words
-    ∙ push_chain ws s.top s.free m b (omega (arith, room_words ws hs)) out s.unheld in
+    ∙ push_chain ws s.top s.free m b (omega (arith, room_words ws hs)) out s.threads.unheld in
     record {
       after = after;
       pushed = pushed;
       threads =
           subst (λ (os : List ℕ). Threads os (slabs.held v)) (sym pushed)
-          (subst (Threads (b ∷ order s)) (sym after) (listed_freed (order s) m b below last (threads_of s)));
+          (subst (Threads (b ∷ order s)) (sym after) (listed_freed (order s) m b below last s.threads));
     }
 
 -- ---- the first number taken
@@ -114,7 +109,7 @@ popped_store s next v some e after claim =
     let n = s.free - 1 in
     let rest : List ℕ = chain ws (get_or ws (16 * b) 0) n in
     let split : order s ≡ b ∷ rest = chain_first ws b s.free some in
-    let t : Threads (b ∷ rest) m = subst (λ (os : List ℕ). Threads os m) split (threads_of s) in
+    let t : Threads (b ∷ rest) m = subst (λ (os : List ℕ). Threads os m) split s.threads in
     let below : b < m.size = t.inside 0 (omega arith) in
     let yes_below : ltb b m.size ≡ true = lt-ltb b m.size below in
     let to_next : next ≡ get_or ws (16 * b) 0 = e ∙ cond-true _ (get_or ws (16 * b) 0) 0 yes_below in

@@ -1,9 +1,6 @@
 // The store's parts, and what always holds of them.
-ghost use Rattle.std.specs.Prelude.{◌≡◌};
-ghost use Rattle.block.specs.Blocks.{free_count};
 ghost use Rattle.block_slab.specs.Held.{held};
-ghost use Rattle.layout.specs.Layout.{Fits};
-ghost use Rattle.links.specs.Chain.{Apart, Inside, Unheld, chain};
+ghost use Rattle.links.specs.Chain.{Threads, chain};
 
 use block_slab::Slab;
 
@@ -15,9 +12,5 @@ pub struct ChainStore<'a> {
     pub(crate) top: u32,
     // how many numbers are free
     pub(crate) free: u32,
-    ghost fits: { Fits (held slab) },
-    ghost inside: { Inside (chain slab.words.now top free) (held slab) },
-    ghost unheld: { Unheld (chain slab.words.now top free) (held slab) },
-    ghost apart: { Apart (chain slab.words.now top free) },
-    ghost counted: { free ≡ free_count (held slab) },
+    ghost threads: { Threads (chain slab.words.now top free) (held slab) },
 }

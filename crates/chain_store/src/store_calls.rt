@@ -19,16 +19,16 @@ impl<'a> ChainStore<'a> {
         ensures stays { stands_on result ≡ past (words.entry.ghost_name ∷ cells.entry.ghost_name ∷ []) words.old cells.old }
         ensures order { order result ≡ range_with_len 0 (room words.old cells.old) }
     {
-        let mut slab = Slab { words, cells };
+        let mut slab = Slab::new(words, cells);
         slab.clear();
-        let size = slab.size();
-        for k in 0..size {
-            slab.words[16 * k] = k as u32 + 1;
+        let size = slab.view().size() as u32;
+        for b in 0..size {
+            slab.link(b, b + 1);
         }
         ChainStore {
             slab,
             top: 0,
-            free: size as u32,
+            free: size,
         }
     }
 }
@@ -36,7 +36,7 @@ impl<'a> ChainStore<'a> {
 impl<'a> BlockStore for ChainStore<'a> {
     ghost blocks = { held };
 
-    ghost whole = { λ s. laid_whole s.slab.words.now s.slab.cells.now s.fits };
+    ghost whole = { λ s. laid_whole s.slab.words.now s.slab.cells.now s.slab.fits };
 
     ghost frame = { stands_on };
 
@@ -50,7 +50,7 @@ impl<'a> BlockStore for ChainStore<'a> {
             return Err(Refusal::NoneFree);
         }
         let b = self.top;
-        self.top = self.slab.linked(b);
+        self.top = self.slab.view().linked(b);
         self.free -= 1;
         self.slab.claim(b);
         Ok(b)
@@ -81,7 +81,7 @@ impl<'a> BlockStore for ChainStore<'a> {
     }
 
     fn get(&self, b: u32, i: u32) -> Result<u32, Refusal> {
-        self.slab.get(b, i)
+        self.slab.view().get(b, i)
     }
 
     fn put(&mut self, b: u32, i: u32, w: u32) -> Result<(), Refusal>
@@ -94,7 +94,7 @@ impl<'a> BlockStore for ChainStore<'a> {
     }
 
     fn holders(&self, b: u32) -> Result<u16, Refusal> {
-        self.slab.holders(b)
+        self.slab.view().holders(b)
     }
 
     // The chain has every free number once, and no other.
@@ -106,6 +106,6 @@ impl<'a> BlockStore for ChainStore<'a> {
     }
 
     fn size(&self) -> u32 {
-        self.slab.size() as u32
+        self.slab.view().size() as u32
     }
 }

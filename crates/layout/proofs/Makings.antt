@@ -1,13 +1,13 @@
 -- What freeing all blocks, and putting one out, leave of the cells.
-use Rattle.std.proofs.Common.{◌≡◌, ℕ, ◌+◌, ◌-◌, ◌*◌, ◌<◌, ◌≤◌, List, length, get_or, set, replicate, refl, ap, ◌∙◌, inl, inr, arith, rules}
+use Rattle.std.proofs.Common.{◌≡◌, ℕ, ◌+◌, ◌-◌, ◌*◌, ◌<◌, ◌≤◌, List, length, get_or, set, replicate, ◌++◌, drop, refl, ap, ◌∙◌, inl, inr, arith, rules}
 use borrow.Rule.Slice.PartMut.{put_mid}
 use base.Fml.{GName}
-use Rattle.std.proofs.lemmas.List.{get_or-set_same, get_or-set_other, length-set, get_or-replicate, drop-set-lt, places}
-use Rattle.std.proofs.lemmas.Slice.{drop-put_mid}
+use Rattle.std.proofs.lemmas.List.{get_or-set_same, get_or-set_other, get_or_append_left, length-set, length-append, length-drop, length-replicate, get_or-replicate, drop-set-lt, places}
+use Rattle.std.proofs.lemmas.Slice.{drop-put_mid, drop-append-drop}
 use Rattle.std.proofs.lemmas.Bool.{cases_lt}
 use Rattle.std.proofs.lemmas.Bool.Decides.{nat_tests}
 use Rattle.block.specs.Blocks.{all_free}
-use Rattle.layout.specs.Layout.{room, held_in, word_in, laid, past, Fits, Claimed}
+use Rattle.layout.specs.Layout.{room, held_in, word_in, laid, past, Fits, Claimed, Cleared}
 use Rattle.layout.proofs.Layouts.{room_same, same_blocks, past_same}
 
 module _ (ws hs ys : List ℕ) (b : ℕ) (l : b < room ws hs) (e : ys ≡ replicate 16 0) where
@@ -50,6 +50,15 @@ module _ (ws hs ys : List ℕ) (b : ℕ) (l : b < room ws hs) (e : ys ≡ replic
       past_same ns ws zeroed hs (set hs b 1) zeroed_long (length-set hs b 1)
       (drop-put_mid (16 * b) (16 * b + 16 - 16 * b) ws ys (16 * room ws hs) (omega arith) (omega arith) (omega (arith, ys_long)))
       (drop-set-lt (room ws hs) hs b 1 l)
+
+-- the first n holder cells filled with zeros
+pub filled : (hs zs : List ℕ) (n : ℕ) → n ≤ length hs → zs ≡ replicate n 0 → Cleared n hs (zs ++ drop n hs)
+filled hs zs n l e =
+    let long : length zs ≡ n = ap length e ∙ length-replicate n 0 in record {
+      long = omega (arith, length-append zs (drop n hs), length-drop n hs);
+      zeros = λ k m. get_or_append_left zs (drop n hs) 0 k (omega arith) ∙ ap (λ (xs : List ℕ). get_or xs k 0) e ∙ get_or-replicate n k 0 0 m;
+      others = drop-append-drop n hs zs n (omega arith) long;
+    }
 
 -- where all the holder cells are zeros
 module _ (ws hs hs' : List ℕ) (e : length hs' ≡ length hs) (z : (k : ℕ) → k < room ws hs → get_or hs' k 0 ≡ 0) where

@@ -6,7 +6,7 @@ ghost use Rattle.block_slab.specs.Held.{held, stands_on};
 ghost use Rattle.layout.specs.Layout.{past, room};
 ghost use Rattle.layout.proofs.Wholes.{laid_whole};
 
-use crate::maps::{lowest, ones, turn};
+use crate::bit_map::BitMap;
 use crate::store::MapStore;
 use block::{BlockStore, Refusal};
 use block_slab::Slab;
@@ -17,11 +17,11 @@ impl<'a> MapStore<'a> {
         ensures after { held result.slab ≡ all_free (room words.old cells.old) }
         ensures stays { stands_on result.slab ≡ past (words.entry.ghost_name ∷ cells.entry.ghost_name ∷ []) words.old cells.old }
     {
-        let mut slab = Slab { words, cells };
+        let mut slab = Slab::new(words, cells);
         slab.clear();
-        let mut map = [u32::MAX; 512];
-        for b in 0..slab.size() as u32 {
-            turn(&mut map, b);
+        let mut map = BitMap::full();
+        for b in 0..slab.view().size() as u32 {
+            map.turn(b);
         }
         MapStore {
             slab,
@@ -34,7 +34,7 @@ impl<'a> MapStore<'a> {
 impl<'a> BlockStore for MapStore<'a> {
     ghost blocks = { λ s. held s.slab };
 
-    ghost whole = { λ s. laid_whole s.slab.words.now s.slab.cells.now s.fits };
+    ghost whole = { λ s. laid_whole s.slab.words.now s.slab.cells.now s.slab.fits };
 
     ghost frame = { λ s. stands_on s.slab };
 
@@ -44,10 +44,10 @@ impl<'a> BlockStore for MapStore<'a> {
         ensures stays { stands_on self.new.slab ≡ stands_on self.old.slab }
         ensures lowest { IfOk result (λ b. (k : ℕ) → k < b → 0 < (held self.old.slab).holders k) }
     {
-        match lowest(&self.map, self.first) {
+        match self.map.lowest(self.first) {
             Some(b) => {
                 self.slab.claim(b);
-                turn(&mut self.map, b);
+                self.map.turn(b);
                 self.first = b as usize / 32;
                 Ok(b)
             }
@@ -61,14 +61,14 @@ impl<'a> BlockStore for MapStore<'a> {
 
     fn release(&mut self, b: u32) -> Result<(), Refusal> {
         if self.slab.release(b)? {
-            turn(&mut self.map, b);
+            self.map.turn(b);
             self.first = self.first.min(b as usize / 32);
         }
         Ok(())
     }
 
     fn get(&self, b: u32, i: u32) -> Result<u32, Refusal> {
-        self.slab.get(b, i)
+        self.slab.view().get(b, i)
     }
 
     fn put(&mut self, b: u32, i: u32, w: u32) -> Result<(), Refusal> {
@@ -76,15 +76,15 @@ impl<'a> BlockStore for MapStore<'a> {
     }
 
     fn holders(&self, b: u32) -> Result<u16, Refusal> {
-        self.slab.holders(b)
+        self.slab.view().holders(b)
     }
 
     // The numbers that the map marks as gone, less those that there are not, are out; the others are left.
     fn left(&self) -> u32 {
-        16384 - ones(&self.map)
+        16384 - self.map.ones()
     }
 
     fn size(&self) -> u32 {
-        self.slab.size() as u32
+        self.slab.view().size() as u32
     }
 }

@@ -7,7 +7,7 @@ ghost use Rattle.ring_store.specs.Ring.{ahead, held, stands_on};
 
 use crate::store::RingStore;
 use block::{BlockStore, Refusal};
-use block_slab::Slab;
+use block_slab::{Slab, SlabView};
 
 impl RingStore {
     // A store of 128 blocks, all of them free. The first number that it takes is 0.
@@ -22,17 +22,24 @@ impl RingStore {
         }
     }
 
+    // The memory, to be read.
+    fn view(&self) -> SlabView<'_>
+        ensures words { result.words.now ≡ self.now.words }
+        ensures cells { result.cells.now ≡ self.now.cells }
+    {
+        SlabView {
+            words: &self.words,
+            cells: &self.cells,
+        }
+    }
+
     // The first free number above the one that was taken last, going round.
     fn next(&self) -> Option<u32>
         ensures { MatchOption result ((k : ℕ) → k < 128 → 0 < slice_index self.now.cells k) (λ b. (b < 128) × (slice_index self.now.cells b ≡ 0) × ((k : ℕ) → k < 128 → ahead self.now.last k < ahead self.now.last b → 0 < slice_index self.now.cells k)) }
     {
-        for step in 1..129 {
-            let b = (self.last + step) % 128;
-            if self.cells[b as usize] == 0 {
-                return Some(b);
-            }
-        }
-        None
+        (1..129)
+            .map(|step| (self.last + step) % 128)
+            .find(|b| self.cells[*b as usize] == 0)
     }
 }
 
@@ -52,11 +59,7 @@ impl BlockStore for RingStore {
     {
         match self.next() {
             Some(b) => {
-                let mut slab = Slab {
-                    words: &mut self.words,
-                    cells: &mut self.cells,
-                };
-                slab.claim(b);
+                Slab::new(&mut self.words, &mut self.cells).claim(b);
                 self.last = b;
                 Ok(b)
             }
@@ -70,11 +73,7 @@ impl BlockStore for RingStore {
         ensures stays { stands_on self.new ≡ stands_on self.old }
         ensures last { self.new.last ≡ self.old.last }
     {
-        let mut slab = Slab {
-            words: &mut self.words,
-            cells: &mut self.cells,
-        };
-        slab.keep(b)
+        Slab::new(&mut self.words, &mut self.cells).keep(b)
     }
 
     fn release(&mut self, b: u32) -> Result<(), Refusal>
@@ -83,16 +82,12 @@ impl BlockStore for RingStore {
         ensures stays { stands_on self.new ≡ stands_on self.old }
         ensures last { self.new.last ≡ self.old.last }
     {
-        let mut slab = Slab {
-            words: &mut self.words,
-            cells: &mut self.cells,
-        };
-        slab.release(b)?;
+        Slab::new(&mut self.words, &mut self.cells).release(b)?;
         Ok(())
     }
 
     fn get(&self, b: u32, i: u32) -> Result<u32, Refusal> {
-        block_slab::get(&self.words, &self.cells, b, i)
+        self.view().get(b, i)
     }
 
     fn put(&mut self, b: u32, i: u32, w: u32) -> Result<(), Refusal>
@@ -101,22 +96,18 @@ impl BlockStore for RingStore {
         ensures stays { stands_on self.new ≡ stands_on self.old }
         ensures last { self.new.last ≡ self.old.last }
     {
-        let mut slab = Slab {
-            words: &mut self.words,
-            cells: &mut self.cells,
-        };
-        slab.put(b, i, w)
+        Slab::new(&mut self.words, &mut self.cells).put(b, i, w)
     }
 
     fn holders(&self, b: u32) -> Result<u16, Refusal> {
-        block_slab::holders(&self.words, &self.cells, b)
+        self.view().holders(b)
     }
 
     fn left(&self) -> u32 {
-        block_slab::left(&self.words, &self.cells)
+        self.view().left()
     }
 
     fn size(&self) -> u32 {
-        block_slab::size(&self.words, &self.cells) as u32
+        self.view().size() as u32
     }
 }

@@ -1,9 +1,8 @@
-use Rattle.std.proofs.Common.{◌<◌, sym, ◌∙◌, subst, arith}
+use Rattle.std.proofs.Common.{ap, length, ◌<◌, sym, ◌∙◌, arith}
 use Rattle.std.proofs.lemmas.Bool.{lt-ltb, cond-true}
 use Rattle.block.specs.Calls.{taken}
-use Rattle.layout.specs.Layout.{room, laid, Fits}
+use Rattle.layout.specs.Layout.{room, laid}
 use Rattle.layout.proofs.Layouts.{after_claim}
-use Rattle.layout.proofs.Fitting.{fits_taken}
 use Rattle.layout.proofs.Makings.{claimed, claimed_past}
 use Rattle.block_slab.proofs.memory.Slab.claim.Goals as goal
 
@@ -12,13 +11,12 @@ returns-then-k-size c =
     let ws = c.args.self.now.words.now in
     let hs = c.args.self.now.cells.now in
     let b = c.args.b in
-    let below : b < room ws hs = omega arith in
+    let below : b < room ws hs = omega (arith, ap length c.view.ensures.words, ap length c.view.ensures.cells) in
     let zeros = c.copy_from_slice.ensures.after in
     let cells = claimed ws hs c.copy_from_slice.new.self b below zeros in
     let after = after_claim ws hs b below _ _ cells in
     record {
       after = after ∙ sym (cond-true _ (taken (laid ws hs) b) (laid ws hs) (lt-ltb b (room ws hs) below));
       stays = claimed_past ws hs c.copy_from_slice.new.self b below zeros _;
-      fits = λ f. subst Fits (sym after) (fits_taken (laid ws hs) b f);
       cells = cells;
     }

@@ -1,8 +1,9 @@
-use Rattle.std.proofs.Common.{ℕ, set, sym, refl, ap, ◌∙◌, subst, arith}
+use Rattle.std.proofs.Common.{◌≡◌, ℕ, Ok, set, refl, ap, ◌∙◌, subst, ap₂, arith}
 use Rattle.block.proofs.Answered.{put_ok}
-use Rattle.layout.specs.Layout.{Fits, laid}
+use Rattle.block.specs.Blocks.{Blocks}
+use Rattle.block_slab.specs.Held.{shown}
+use Rattle.layout.specs.Layout.{laid, place_answer}
 use Rattle.layout.proofs.Layouts.{after_put, cell_held, past_set_word}
-use Rattle.layout.proofs.Fitting.{fits_written}
 use Rattle.layout.proofs.Places.{placed}
 use Rattle.block_slab.proofs.memory.Slab.put.Goals as goal
 
@@ -14,14 +15,14 @@ returns c =
     let i = c.args.i in
     let w = c.args.w in
     let m = laid ws hs in
-    let told = placed m b i c.in_ok-k.k c.in_ok-k.ensures in
+    let seen : shown c.view.result ≡ m = ap₂ laid c.view.ensures.words c.view.ensures.cells in
+    let told = placed m b i c.in_ok-k.k (subst (λ (x : Blocks). Ok c.in_ok-k.k ≡ place_answer x b i) seen c.in_ok-k.ensures) in
     let out = cell_held ws hs b told.0 in
     let after = ap (λ (x : ℕ). laid (set ws x w) hs) told.2 ∙ after_put ws hs b out.0 i w told.1 (omega (arith, told.0, out.1)) in
     record {
       answer = put_ok m b told.0 i told.1;
       after = after;
       stays = past_set_word _ ws hs _ w (omega (arith, told.2, told.1, out.0));
-      fits = λ f. subst Fits (sym after) (fits_written m b i w (omega arith) f);
       words = ap (λ (x : ℕ). set ws x w) told.2;
       cells = refl;
     }

@@ -1,50 +1,50 @@
-use Rattle.std.proofs.Common.{◌+◌, ◌*◌, ◌<◌, ◌≢◌, [], ◌∷◌, length, sym, ap, ◌∙◌, arith, below_more}
-use Rattle.std.proofs.lemmas.List.{get_or-set_same, get_or-set_other, length-set, drop-set-lt}
-use Rattle.block.specs.Blocks.{Frame}
-use Rattle.layout.specs.Layout.{room, past}
+use Rattle.std.proofs.Common.{◌≡◌, ℕ, ◌+◌, ◌*◌, ◌<◌, ◌≢◌, List, set, get_or, sym, refl, ap, ◌∙◌, ap₂, arith, below_more}
+use Rattle.std.proofs.lemmas.List.{get_or-set_same, get_or-set_other}
+use Rattle.std.proofs.lemmas.Bool.{lt-ltb, cond-true}
+use Rattle.std.specs.List.{range_with_len}
+use Rattle.block.specs.Blocks.{Blocks, all_free}
+use Rattle.block_slab.specs.Held.{held}
+use Rattle.layout.specs.Layout.{room}
 use Rattle.layout.proofs.Layouts.{room_words}
-use Rattle.links.proofs.Links.{length_chain}
-use Rattle.links.proofs.Makings.{made}
+use Rattle.links.proofs.Makings.{made_order, made_threads}
 use Rattle.chain_store.proofs.store.ChainStore.new.Goals as goal
 
-pub bounds-slab-k : goal.bounds-slab-k
-bounds-slab-k c = omega (arith, c.loop-k.invariant.0, room_words c.clear.new.self.words.now c.clear.new.self.cells.now)
+pub loop-b-init : goal.loop-b-init
+loop-b-init c = record {
+  size = c.size-size.ensures ∙ ap₂ room c.view.ensures.words c.view.ensures.cells ∙ ap (λ (m : Blocks). m.size) c.clear.ensures.after ∙ ap₂ room c.new-slab.ensures.words c.new-slab.ensures.cells;
+  free = c.clear.ensures.after ∙ ap all_free (ap₂ room c.new-slab.ensures.words c.new-slab.ensures.cells);
+  stays = refl;
+  links = λ k l. absurd (omega arith);
+}
 
-pub loop-k-preserved : goal.loop-k-preserved
-loop-k-preserved c =
-    let v = c.loop-k.invariant in
-    let vs = c.loop-k.slab.words.now in
-    let u = c.clear.new.self in
-    let k = c.loop-k.k in
-    let in_room : k < room u.words.now u.cells.now = omega arith in
-    let in_words : 16 * k < length vs = omega (arith, v.0, room_words u.words.now u.cells.now) in (
-      length-set vs (16 * k) (k + 1) ∙ v.0,
-      below_more _ _ (λ j l. let d : 16 * j ≢ 16 * k = omega arith in get_or-set_other vs (16 * k) (16 * j) (k + 1) 0 d ∙ v.1 j l) (get_or-set_same vs (16 * k) (k + 1) 0 in_words),
-      drop-set-lt (16 * room u.words.now u.cells.now) vs (16 * k) (k + 1) (omega arith) ∙ v.2,
-      v.3,
-    )
+pub loop-b-preserved : goal.loop-b-preserved
+loop-b-preserved c =
+    let v = c.loop-b.invariant in
+    let b = c.loop-b.b in
+    let ws : List ℕ = c.loop-b.slab.words.now in
+    let n = room c.args.words.now c.args.cells.now in
+    let told = c.link.ensures in
+    let size : room ws c.loop-b.slab.cells.now ≡ n = ap (λ (m : Blocks). m.size) v.free in
+    let below : b < room ws c.loop-b.slab.cells.now = omega (arith, v.size, size) in
+    let words : c.link.new.self.words.now ≡ set ws (16 * b) (b + 1) = told.words ∙ cond-true _ (set ws (16 * b) (b + 1)) ws (lt-ltb b _ below) in
+    record {
+      size = v.size;
+      free = told.after (ap (λ (m : Blocks). m.holders b) v.free) ∙ v.free;
+      stays = told.stays ∙ v.stays;
+      links = λ k l. ap (λ (xs : List ℕ). get_or xs (16 * k) 0) words ∙ below_more _ _ (λ j m. let d : 16 * j ≢ 16 * b = omega arith in get_or-set_other ws (16 * b) (16 * j) (b + 1) 0 d ∙ v.links j m) (get_or-set_same ws (16 * b) (b + 1) 0 (omega (arith, room_words ws c.loop-b.slab.cells.now))) k l;
+    }
 
 pub invariant_of-result : goal.invariant_of-result
 invariant_of-result c =
-    let v = c.loop-k.invariant in
-    let u = c.clear.new.self in
-    let n = c.size-size.result in
-    let d = made c.args.words.now c.args.cells.now u.words.now u.cells.now c.loop-k.slab.words.now c.loop-k.slab.cells.now n
-    c.clear.ensures.words c.clear.ensures.cells c.size-size.ensures v.0 (λ k l. v.1 k (omega arith)) v.2 v.3 in
-    let t = d.threads in
-    record { fits = d.fits; inside = t.inside; unheld = t.unheld; apart = t.apart; counted = sym (length_chain c.loop-k.slab.words.now 0 n) ∙ t.counted }
+    let v = c.loop-b.invariant in
+    let n = room c.args.words.now c.args.cells.now in
+    record { threads = made_threads (held c.loop-b.slab) c.loop-b.slab.words.now c.size-size.result (v.free ∙ ap all_free (sym v.size)) (λ k l. v.links k (omega arith)) }
 
-pub returns : goal.returns
-returns c =
-    let v = c.loop-k.invariant in
-    let u = c.clear.new.self in
-    let n = c.size-size.result in
-    let d = made c.args.words.now c.args.cells.now u.words.now u.cells.now c.loop-k.slab.words.now c.loop-k.slab.cells.now n
-    c.clear.ensures.words c.clear.ensures.cells c.size-size.ensures v.0 (λ k l. v.1 k (omega arith)) v.2 v.3 in
-    record {
-      after = d.free;
-      stays =
-          ap (λ (f : Frame). past f.names c.loop-k.slab.words.now c.loop-k.slab.cells.now) c.clear.ensures.stays
-          ∙ d.past (c.args.words.ghost_name ∷ c.args.cells.ghost_name ∷ []);
-      order = d.order;
-    }
+pub returns-clause-after : goal.returns-clause-after
+returns-clause-after c = c.loop-b.invariant.free
+
+pub returns-clause-order : goal.returns-clause-order
+returns-clause-order c =
+    let v = c.loop-b.invariant in
+    let n = room c.args.words.now c.args.cells.now in
+    made_order (held c.loop-b.slab) c.loop-b.slab.words.now c.size-size.result (v.free ∙ ap all_free (sym v.size)) (λ k l. v.links k (omega arith)) ∙ ap (range_with_len 0) v.size

@@ -1,5 +1,5 @@
-use Rattle.chain_store.proofs.Stores.{threads_of}
+use Rattle.chain_store.proofs.Stores.{free_counted}
 use Rattle.chain_store.proofs.store_calls.ChainStoreBlockStore.left.Goals as goal
 
 pub returns : goal.returns
-returns c = record { value = c.args.self.now.counted; order = threads_of c.args.self.now }
+returns c = record { value = free_counted c.args.self.now; order = c.args.self.now.threads }

@@ -16,10 +16,8 @@ invariant_of-self-then-branch c =
     let told = c.in_ok-release.ensures in
     let t = c.turn.ensures in
     let last : m.holders b ≡ 1 = freed m b (ap Ok (sym c.if-branch.true) ∙ told.answer) in
-    let below : b < m.size = out_below m b (laid_whole s.slab.words.now s.slab.cells.now s.fits) (omega arith) in
+    let below : b < m.size = out_below m b (laid_whole s.slab.words.now s.slab.cells.now s.slab.fits) (omega arith) in
     let few : b < 16384 = omega arith in record {
-      fits = told.fits s.fits;
-      long = t.long;
-      marks = subst (Marks c.turn.new.map) (sym told.after) (freed_marks s.map c.turn.new.map m b s.marks few (t.turned few) t.others below last);
+      marks = subst (Marks c.turn.new.self.words) (sym told.after) (freed_marks s.map.words c.turn.new.self.words m b s.marks few (t.turned few) t.others below last);
       full = λ k l f. let d : k ≢ b = omega arith in t.others k d ∙ s.full k (omega arith) f;
     }

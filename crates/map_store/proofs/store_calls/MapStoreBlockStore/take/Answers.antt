@@ -13,12 +13,10 @@ invariant_of-self c =
     let b = c.in-Some.b in
     let m : Blocks = held s.slab in
     let told = c.in-Some.ensures in
-    let found = lowest_found s.map m s.first b s.marks s.full told.0 told.1 told.2 in
+    let found = lowest_found s.map.words m s.first b s.marks s.full told.0 told.1 told.2 in
     let after = c.claim.ensures.after ∙ cond-true _ (taken m b) m (lt-ltb b m.size found.below) in
     let t = c.turn.ensures in record {
-      fits = c.claim.ensures.fits s.fits;
-      long = t.long;
-      marks = subst (Marks c.turn.new.map) (sym after) (taken_marks s.map c.turn.new.map m b s.marks told.0 (t.turned told.0) t.others told.1);
+      marks = subst (Marks c.turn.new.self.words) (sym after) (taken_marks s.map.words c.turn.new.self.words m b s.marks told.0 (t.turned told.0) t.others told.1);
       full = λ k l _. let d : k ≢ b = omega arith in t.others k d ∙ found.lower k (omega arith);
     }
 
@@ -28,7 +26,7 @@ returns-in-Some c =
     let b = c.in-Some.b in
     let m : Blocks = held s.slab in
     let told = c.in-Some.ensures in
-    let found = lowest_found s.map m s.first b s.marks s.full told.0 told.1 told.2 in
+    let found = lowest_found s.map.words m s.first b s.marks s.full told.0 told.1 told.2 in
     record {
       after = record {
         below = found.below;

@@ -1,26 +1,13 @@
-use Rattle.std.proofs.Common.{◌≡◌, ℕ, ◌+◌, ◌%◌, ◌<◌, get_or, sym, subst, inl, inr, arith}
-use Rattle.std.proofs.lemmas.Bool.{cases_lt}
-use Rattle.ring_store.proofs.Rounds.{met, steps_ahead}
+use Rattle.std.proofs.Common.{◌≡◌, ◌+◌, ◌%◌, ◌<◌, get_or, rules, arith}
+use borrow.Author.Tests.{tests}
+use Rattle.std.proofs.lemmas.Iterator.{YieldsList-from_range, YieldsList-from_map, first_from_find}
+use Rattle.ring_store.proofs.Rounds.{first_free}
 use Rattle.ring_store.proofs.store.RingStore.next.Goals as goal
 
-pub loop-step-preserved : goal.loop-step-preserved
-loop-step-preserved c j a l =
-    elim (cases_lt j c.loop-step.step) [
-      | inl h ↦ c.loop-step.invariant j a h
-      | inr h ↦
-          let s = c.args.self.now in
-          let e : j ≡ c.loop-step.step = omega arith in
-          subst (λ (x : ℕ). 0 < get_or s.cells ((s.last + x) % 128) 0) (sym e) (omega arith)
-    ]
-
-pub returns-then-self-b-eq0 : goal.returns-then-self-b-eq0
-returns-then-self-b-eq0 c =
-    let s = c.args.self.now in
-    let step = c.loop-step.step in (
-      omega arith,
-      c.if-self-b-eq0.true,
-      λ k l h. met s.cells s.last step s.near c.loop-step.invariant k l (omega (arith, h, steps_ahead s.last step s.near (omega arith) c.loop-step-test.true)),
-    )
-
 pub returns : goal.returns
-returns c k l = let s = c.args.self.now in met s.cells s.last c.loop-step.step s.near c.loop-step.invariant k l (omega arith)
+returns c =
+    let s = c.args.self.now in
+    first_free s.cells s.last c.find.result s.near
+    (first_from_find _ _ c.find.result (λ b. get_or s.cells b 0 ≡ 0) (λ b. 0 < get_or s.cells b 0) c.find.ensures.ran
+    (YieldsList-from_map _ (λ step. (s.last + step) % 128) (YieldsList-from_range 1 129 128 c.map.ensures.source (omega arith)) c.map.ensures.closure (λ x r q k. search rules))
+    (λ x q k. search (rules, tests)) (λ x q k. search (rules, tests)))
