@@ -1,9 +1,9 @@
 -- What an answer tells of the grounds on which it could have been refused.
-use Rattle.std.proofs.Common.{◌≡◌, ℕ, ◌<◌, Bool, true, false, ltb, leb, Ok, Result, refl, ◌∙◌, arith}
+use Rattle.std.proofs.Common.{◌≡◌, ℕ, ◌<◌, Bool, true, false, Ok, Result, refl, arith}
 use Rattle.std.proofs.lemmas.Bool.Decides.{nat_tests}
 use Rattle.block.specs.declared.refusals.Refusal.{Refusal}
 use Rattle.block.specs.Blocks.{Blocks, is_free}
-use Rattle.block.specs.Calls.{refused_if, get_answer, put_answer, keep_answer, release_answer, holders_answer}
+use Rattle.block.specs.Calls.{refused_if, holders_answer}
 
 -- a call that was accepted was not refused
 pub accepted : {A : Type 0} (t : Bool) (n : ℕ) (r : Result A Refusal) (x : A) → Ok x ≡ refused_if t n r → (t ≡ false) × (Ok x ≡ r)
@@ -27,29 +27,3 @@ held_false m b l = grind (arith, nat_tests)
 -- a block whose holders were counted is out
 pub holders_told : (m : Blocks) (b x : ℕ) → Ok x ≡ holders_answer m b → (0 < m.holders b) × (x ≡ m.holders b)
 holders_told m b x e = let a = accepted (is_free m b) 2 (Ok (m.holders b)) x e in (free_false m b a.0, same_value x (m.holders b) a.1)
-
-pub get_told : (m : Blocks) (b i x : ℕ) → Ok x ≡ get_answer m b i → (0 < m.holders b) × (i < 16) × (x ≡ m.word b i)
-get_told m b i x e =
-    let a = accepted (is_free m b) 2 (refused_if (ltb 15 i) 4 (Ok (m.word b i))) x e in
-    let k = accepted (ltb 15 i) 4 (Ok (m.word b i)) x a.1 in
-    let t = k.0 in (free_false m b a.0, grind (arith, nat_tests), same_value x (m.word b i) k.1)
-
--- the answers at a block that is out
-module _ (m : Blocks) (b : ℕ) (h : 0 < m.holders b) where
-  pub put_ok : (i : ℕ) → i < 16 → Ok tt ≡ put_answer m b i
-  put_ok i l =
-      let t : ltb 15 i ≡ false = grind (arith, nat_tests) in
-      passed (ltb 15 i) 4 (Ok tt) t ∙ passed (is_free m b) 2 (refused_if (ltb 15 i) 4 (Ok tt)) (held_false m b h)
-
-  pub get_ok : (i : ℕ) → i < 16 → Ok (m.word b i) ≡ get_answer m b i
-  get_ok i l =
-      let t : ltb 15 i ≡ false = grind (arith, nat_tests) in
-      passed (ltb 15 i) 4 (Ok (m.word b i)) t ∙ passed (is_free m b) 2 (refused_if (ltb 15 i) 4 (Ok (m.word b i))) (held_false m b h)
-
-  pub keep_ok : m.holders b < 65535 → Ok tt ≡ keep_answer m b
-  keep_ok l =
-      let t : leb 65535 (m.holders b) ≡ false = grind (arith, nat_tests) in
-      passed (leb 65535 (m.holders b)) 3 (Ok tt) t ∙ passed (is_free m b) 2 (refused_if (leb 65535 (m.holders b)) 3 (Ok tt)) (held_false m b h)
-
-  pub release_ok : Ok tt ≡ release_answer m b
-  release_ok = passed (is_free m b) 2 (Ok tt) (held_false m b h)

@@ -1,6 +1,6 @@
 -- How many numbers are free after a call.
-use Rattle.std.proofs.Common.{◌≡◌, ℕ, ◌+◌, ◌-◌, ◌<◌, ◌≤◌, cond, eqb, ◌≢◌, refl, ap, arith}
-use native.Mathlib.Decide.{ℕ_discrete}
+use Rattle.std.proofs.Common.{◌≡◌, ℕ, ◌+◌, ◌-◌, ◌<◌, ◌≤◌, cond, eqb, ◌≢◌, refl, ap, inl, inr, arith}
+use Rattle.std.proofs.lemmas.Bool.{cases_eq}
 use Rattle.std.proofs.lemmas.Bool.Decides.{nat_tests}
 use Rattle.block.specs.Blocks.{Blocks, all_free, sum_to, spare, free_count}
 use Rattle.block.specs.Calls.{written, kept, released, taken}
@@ -26,9 +26,9 @@ at_one_other m b h c d = grind (arith, nat_tests)
 level : (m : Blocks) (b h : ℕ) → spare h ≡ spare (m.holders b) → sum_to m.size (λ c. spare (at_one m b h c)) ≡ sum_to m.size (λ c. spare (m.holders c))
 level m b h e =
     sum_same m.size _ _ (λ c l.
-    elim (ℕ_discrete c b) [
-      | yes y ↦ let t = ap m.holders y in let u = ap (at_one m b h) y in let v = at_one_same m b h in let w = ap spare t in grind (arith, nat_tests)
-      | no d ↦ ap spare (at_one_other m b h c d)
+    elim (cases_eq c b) [
+      | inl y ↦ let t = ap m.holders y in let u = ap (at_one m b h) y in let v = at_one_same m b h in let w = ap spare t in grind (arith, nat_tests)
+      | inr d ↦ ap spare (at_one_other m b h c d)
     ])
 
 -- the sum before and after, where b is below the size
@@ -62,7 +62,7 @@ pub none_left : (m : Blocks) → free_count m ≡ 0 → (b : ℕ) → b < m.size
 unfolding free_count
 none_left m e b l =
     let x = at_most_sum m.size (λ c. spare (m.holders c)) b l in
-    elim (ℕ_discrete (m.holders b) 0) [ yes z ↦ let y = spare_free (m.holders b) z in omega arith | no d ↦ omega arith ]
+    elim (cases_eq (m.holders b) 0) [ inl z ↦ let y = spare_free (m.holders b) z in omega arith | inr d ↦ omega arith ]
 
 pub all_out : (m : Blocks) → ((b : ℕ) → b < m.size → 0 < m.holders b) → free_count m ≡ 0
 unfolding free_count

@@ -1,8 +1,8 @@
 -- Sums over the numbers below n.
-use Rattle.std.proofs.Common.{◌≡◌, ℕ, zero, suc, ◌+◌, ◌<◌, ◌≤◌, ◌≢◌, List, length, get_or, take, refl, ap, ◌∙◌, add-one, arith}
+use Rattle.std.proofs.Common.{◌≡◌, ℕ, zero, suc, ◌+◌, ◌<◌, ◌≤◌, ◌≢◌, List, length, get_or, take, refl, ap, ◌∙◌, add-one, inl, inr, arith}
+use Rattle.std.proofs.lemmas.Bool.{cases_eq}
 use Rattle.std.specs.List.{sum_by}
 use Rattle.std.proofs.lemmas.List.Sums.{sum_by_more}
-use native.Mathlib.Decide.{ℕ_discrete}
 use Rattle.block.specs.Blocks.{sum_to}
 
 pub sum_zero : (f : ℕ → ℕ) → sum_to 0 f ≡ 0
@@ -23,16 +23,16 @@ pub sum_at : (n : ℕ) (f g : ℕ → ℕ) (c : ℕ) → c < n → ((j : ℕ) �
 unfolding sum_to
 sum_at zero f g c l h = absurd (omega arith)
 sum_at (suc n) f g c l h =
-    elim (ℕ_discrete n c) [
-      | yes e ↦ omega (arith, ap f e, ap g e, sum_same n f g (λ j k. h j (omega arith)))
-      | no d ↦ omega (arith, h n d, sum_at n f g c (omega arith) h)
+    elim (cases_eq n c) [
+      | inl e ↦ omega (arith, ap f e, ap g e, sum_same n f g (λ j k. h j (omega arith)))
+      | inr d ↦ omega (arith, h n d, sum_at n f g c (omega arith) h)
     ]
 
 pub at_most_sum : (n : ℕ) (f : ℕ → ℕ) (c : ℕ) → c < n → f c ≤ sum_to n f
 unfolding sum_to
 at_most_sum zero f c l = absurd (omega arith)
 at_most_sum (suc n) f c l =
-    elim (ℕ_discrete n c) [ yes e ↦ omega (arith, ap f e) | no d ↦ omega (arith, at_most_sum n f c (omega arith)) ]
+    elim (cases_eq n c) [ inl e ↦ omega (arith, ap f e) | inr d ↦ omega (arith, at_most_sum n f c (omega arith)) ]
 
 pub sum_none : (n : ℕ) (f : ℕ → ℕ) → ((j : ℕ) → j < n → f j ≡ 0) → sum_to n f ≡ 0
 unfolding sum_to

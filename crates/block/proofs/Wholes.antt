@@ -1,8 +1,7 @@
 -- What holds of every store still holds after a call.
 use Rattle.std.proofs.Common.{◌≡◌, ℕ, ◌^◌, ◌<◌, ap, inl, inr, arith}
-use native.Mathlib.Decide.{ℕ_discrete}
 use Rattle.std.proofs.lemmas.Bool.Decides.{nat_tests}
-use Rattle.std.proofs.lemmas.Bool.{cases_lt}
+use Rattle.std.proofs.lemmas.Bool.{cases_lt, cases_eq}
 use Rattle.block.specs.Blocks.{Blocks, Whole}
 use Rattle.block.specs.Calls.{written, kept, released, taken}
 
@@ -17,9 +16,9 @@ written_whole m b i w v h l f = record {
   held = v.held;
   wide = λ c j k. let x = v.wide c j k in grind (arith, nat_tests);
   blank = λ c j e.
-      elim (ℕ_discrete c b) [
-        | yes y ↦ let t = ap m.holders y in absurd (omega arith)
-        | no d ↦ let x = v.blank c j e in grind (arith, nat_tests)
+      elim (cases_eq c b) [
+        | inl y ↦ let t = ap m.holders y in absurd (omega arith)
+        | inr d ↦ let x = v.blank c j e in grind (arith, nat_tests)
       ];
   fits = λ c j. let x = v.fits c j in grind (arith, nat_tests);
 }
@@ -31,9 +30,9 @@ kept_whole m b v h l = record {
   held = λ c. let x = v.held c in grind (arith, nat_tests);
   wide = v.wide;
   blank = λ c j e.
-      elim (ℕ_discrete c b) [
-        | yes y ↦ absurd (let z : ◌≡◌ {A = ℕ} 0 1 = grind (arith, nat_tests) in omega arith)
-        | no d ↦ v.blank c j (grind (arith, nat_tests))
+      elim (cases_eq c b) [
+        | inl y ↦ absurd (let z : ◌≡◌ {A = ℕ} 0 1 = grind (arith, nat_tests) in omega arith)
+        | inr d ↦ v.blank c j (grind (arith, nat_tests))
       ];
   fits = v.fits;
 }
@@ -42,16 +41,16 @@ pub released_whole : (m : Blocks) (b : ℕ) → Whole m → Whole (released m b)
 released_whole m b v = record {
   few = v.few;
   beyond = λ c k.
-      elim (ℕ_discrete c b) [
-        | yes y ↦ let x = v.beyond c k in let t = ap m.holders y in grind (arith, nat_tests)
-        | no d ↦ let x = v.beyond c k in grind (arith, nat_tests)
+      elim (cases_eq c b) [
+        | inl y ↦ let x = v.beyond c k in let t = ap m.holders y in grind (arith, nat_tests)
+        | inr d ↦ let x = v.beyond c k in grind (arith, nat_tests)
       ];
   held = λ c. let x = v.held c in let y = v.held b in grind (arith, nat_tests);
   wide = λ c j k. let x = v.wide c j k in grind (arith, nat_tests);
   blank = λ c j e.
-      elim (ℕ_discrete c b) [
-        | yes y ↦ grind (arith, nat_tests)
-        | no d ↦ let u : m.holders c ≡ 0 = grind (arith, nat_tests) in let x = v.blank c j u in grind (arith, nat_tests)
+      elim (cases_eq c b) [
+        | inl y ↦ grind (arith, nat_tests)
+        | inr d ↦ let u : m.holders c ≡ 0 = grind (arith, nat_tests) in let x = v.blank c j u in grind (arith, nat_tests)
       ];
   fits = λ c j. let x = v.fits c j in grind (arith, nat_tests);
 }
@@ -63,17 +62,9 @@ taken_whole m b v l = record {
   held = λ c. let x = v.held c in grind (arith, nat_tests);
   wide = λ c j k. let x = v.wide c j k in grind (arith, nat_tests);
   blank = λ c j e.
-      elim (ℕ_discrete c b) [
-        | yes y ↦ grind (arith, nat_tests)
-        | no d ↦ let u : m.holders c ≡ 0 = grind (arith, nat_tests) in let x = v.blank c j u in grind (arith, nat_tests)
+      elim (cases_eq c b) [
+        | inl y ↦ grind (arith, nat_tests)
+        | inr d ↦ let u : m.holders c ≡ 0 = grind (arith, nat_tests) in let x = v.blank c j u in grind (arith, nat_tests)
       ];
   fits = λ c j. let x = v.fits c j in grind (arith, nat_tests);
 }
-
--- a free block's words are zeros already: taking it changes its holders alone
-pub taken_words : (m : Blocks) (b c i : ℕ) → Whole m → m.holders b ≡ 0 → (taken m b).word c i ≡ m.word c i
-taken_words m b c i v e =
-    elim (ℕ_discrete c b) [
-      | yes y ↦ let t = ap (λ (x : ℕ). m.word x i) y in let x = v.blank b i e in grind (arith, nat_tests)
-      | no d ↦ grind (arith, nat_tests)
-    ]

@@ -1,10 +1,9 @@
 -- What a write into the words or the holder cells makes of the blocks.
 use Rattle.std.proofs.Common.{◌≡◌, ℕ, ◌+◌, ◌-◌, ◌*◌, ◌/◌, ◌<◌, ◌≤◌, min, cond, ◌&&◌, eqb, leb, List, length, get_or, drop, set, refl, ap, ◌∙◌, ap₂, inl, inr, arith}
-use native.Mathlib.Decide.{ℕ_discrete, dec_lt}
-use base.Fml.{GName}
-use Rattle.std.proofs.lemmas.List.{get_or-set_same, get_or-set_other, length-set, drop-set-lt}
+use Rattle.std.specs.Borrow.{GName}
+use Rattle.std.proofs.lemmas.List.{get_or-set_same, get_or-set_other, length-set}
 use Rattle.std.proofs.lemmas.Bool.Decides.{nat_tests}
-use Rattle.std.proofs.lemmas.Bool.{cases_lt}
+use Rattle.std.proofs.lemmas.Bool.{cases_lt, cases_eq}
 use Rattle.block.specs.Blocks.{Blocks}
 use Rattle.block.specs.Calls.{written, kept, released, taken}
 use Rattle.layout.specs.Layout.{room, held_in, word_in, laid_in, laid, past, Claimed}
@@ -31,28 +30,22 @@ past_same ns ws ws' hs hs' e f g h = λ j. record {
   holders = (ap (λ (n : ℕ). drop n hs') (room_same ws ws' hs hs' e f) ∙ h) j;
 }
 
-pub past_set_word : (ns : List GName) (ws hs : List ℕ) (k w : ℕ) → k < 16 * room ws hs → past ns (set ws k w) hs ≡ past ns ws hs
-past_set_word ns ws hs k w l = past_same ns ws (set ws k w) hs hs (length-set ws k w) refl (drop-set-lt (16 * room ws hs) ws k w l) refl
-
-pub past_set_cell : (ns : List GName) (ws hs : List ℕ) (b h : ℕ) → b < room ws hs → past ns ws (set hs b h) ≡ past ns ws hs
-past_set_cell ns ws hs b h l = past_same ns ws ws hs (set hs b h) refl (length-set hs b h) refl (drop-set-lt (room ws hs) hs b h l)
-
 -- the first n blocks, where their memory is there
 module _ (n : ℕ) (ws hs : List ℕ) (fw : 16 * n ≤ length ws) (fh : n ≤ length hs) (b : ℕ) (l : b < n) where
   held_set : (h c : ℕ) → held_in n (set hs b h) c ≡ cond (eqb c b) h (held_in n hs c)
-  held_set h c = elim (ℕ_discrete c b) [
-    | yes y ↦ let x = ap (λ (v : ℕ). get_or (set hs b h) v 0) y ∙ get_or-set_same hs b h 0 (omega arith) in grind (arith, nat_tests)
-    | no d ↦ let x = get_or-set_other hs b c h 0 d in grind (arith, nat_tests)
+  held_set h c = elim (cases_eq c b) [
+    | inl y ↦ let x = ap (λ (v : ℕ). get_or (set hs b h) v 0) y ∙ get_or-set_same hs b h 0 (omega arith) in grind (arith, nat_tests)
+    | inr d ↦ let x = get_or-set_other hs b c h 0 d in grind (arith, nat_tests)
   ]
 
   pub word_set : (i w c j : ℕ) → i < 16 → 0 < get_or hs b 0 → word_in n (set ws (16 * b + i) w) hs c j ≡ cond (eqb c b && eqb j i) w (word_in n ws hs c j)
-  word_set i w c j k p = elim (dec_lt j 16) [
-    | no q ↦ grind (arith, nat_tests)
-    | yes q ↦ elim (ℕ_discrete c b) [
-      | no d ↦ let x = get_or-set_other ws (16 * b + i) (16 * c + j) w 0 (λ e. d (omega arith)) in grind (arith, nat_tests)
-      | yes y ↦ elim (ℕ_discrete j i) [
-        | no d ↦ let x = get_or-set_other ws (16 * b + i) (16 * c + j) w 0 (λ e. d (omega arith)) in grind (arith, nat_tests)
-        | yes z ↦
+  word_set i w c j k p = elim (cases_lt j 16) [
+    | inr q ↦ grind (arith, nat_tests)
+    | inl q ↦ elim (cases_eq c b) [
+      | inr d ↦ let x = get_or-set_other ws (16 * b + i) (16 * c + j) w 0 (λ e. d (omega arith)) in grind (arith, nat_tests)
+      | inl y ↦ elim (cases_eq j i) [
+        | inr d ↦ let x = get_or-set_other ws (16 * b + i) (16 * c + j) w 0 (λ e. d (omega arith)) in grind (arith, nat_tests)
+        | inl z ↦
             let s : 16 * c + j ≡ 16 * b + i = omega arith in
             let x = ap (λ (v : ℕ). get_or (set ws (16 * b + i) w) v 0) s ∙ get_or-set_same ws (16 * b + i) w 0 (omega arith) in
             let u = ap (λ (v : ℕ). get_or hs v 0) y in grind (arith, nat_tests)
@@ -68,18 +61,18 @@ module _ (n : ℕ) (ws hs : List ℕ) (fw : 16 * n ≤ length ws) (fh : n ≤ le
 
   -- a change of the holders alone, from some to some
   word_held : (h c j : ℕ) → 0 < get_or hs b 0 → 0 < h → word_in n ws (set hs b h) c j ≡ word_in n ws hs c j
-  word_held h c j p q = let x = held_set h c in elim (ℕ_discrete c b) [
-    | yes y ↦ let u = ap (held_in n hs) y in let v = held_here in grind (arith, nat_tests)
-    | no d ↦ grind (arith, nat_tests)
+  word_held h c j p q = let x = held_set h c in elim (cases_eq c b) [
+    | inl y ↦ let u = ap (held_in n hs) y in let v = held_here in grind (arith, nat_tests)
+    | inr d ↦ grind (arith, nat_tests)
   ]
 
   laid_kept : 0 < get_or hs b 0 → laid_in n ws (set hs b (get_or hs b 0 + 1)) ≡ kept (laid_in n ws hs) b
   laid_kept p = same_blocks _ _ refl (λ c. let x = held_set (get_or hs b 0 + 1) c in let y = held_here in grind (arith, nat_tests)) (λ c j. word_held (get_or hs b 0 + 1) c j p (omega arith))
 
   word_released : (c j : ℕ) → 0 < get_or hs b 0 → word_in n ws (set hs b (get_or hs b 0 - 1)) c j ≡ cond (eqb c b && leb (held_in n hs b) 1) 0 (word_in n ws hs c j)
-  word_released c j p = let x = held_set (get_or hs b 0 - 1) c in let v = held_here in elim (ℕ_discrete c b) [
-    | yes y ↦ let u = ap (held_in n hs) y in grind (arith, nat_tests)
-    | no d ↦ grind (arith, nat_tests)
+  word_released c j p = let x = held_set (get_or hs b 0 - 1) c in let v = held_here in elim (cases_eq c b) [
+    | inl y ↦ let u = ap (held_in n hs) y in grind (arith, nat_tests)
+    | inr d ↦ grind (arith, nat_tests)
   ]
 
   laid_released : 0 < get_or hs b 0 → laid_in n ws (set hs b (get_or hs b 0 - 1)) ≡ released (laid_in n ws hs) b
@@ -111,34 +104,19 @@ module _ (ws hs : List ℕ) (b : ℕ) (l : b < room ws hs) where
       ∙ same_blocks _ _ refl held word
     where
       held : (c : ℕ) → held_in (room ws hs) hs' c ≡ cond (eqb c b) 1 (held_in (room ws hs) hs c)
-      held c = elim (ℕ_discrete c b) [
-        | yes y ↦ let x = ap (λ (v : ℕ). get_or hs' v 0) y ∙ t.held l in grind (arith, nat_tests)
-        | no d ↦ let x = t.others_held c d in grind (arith, nat_tests)
+      held c = elim (cases_eq c b) [
+        | inl y ↦ let x = ap (λ (v : ℕ). get_or hs' v 0) y ∙ t.held l in grind (arith, nat_tests)
+        | inr d ↦ let x = t.others_held c d in grind (arith, nat_tests)
       ]
 
       word : (c j : ℕ) → word_in (room ws hs) ws' hs' c j ≡ cond (eqb c b) 0 (word_in (room ws hs) ws hs c j)
-      word c j = let h = held c in elim (dec_lt j 16) [
-        | no q ↦ grind (arith, nat_tests)
-        | yes q ↦ elim (ℕ_discrete c b) [
-          | yes y ↦ let x = ap (λ (v : ℕ). get_or ws' (16 * v + j) 0) y ∙ t.zeros l j q in grind (arith, nat_tests)
-          | no d ↦ let u = t.others_words c j d q in grind (arith, nat_tests)
+      word c j = let h = held c in elim (cases_lt j 16) [
+        | inr q ↦ grind (arith, nat_tests)
+        | inl q ↦ elim (cases_eq c b) [
+          | inl y ↦ let x = ap (λ (v : ℕ). get_or ws' (16 * v + j) 0) y ∙ t.zeros l j q in grind (arith, nat_tests)
+          | inr d ↦ let u = t.others_words c j d q in grind (arith, nat_tests)
         ]
       ]
-
--- a word of a block that is free does not show
-pub after_link : (ws hs : List ℕ) (b w : ℕ) → (laid ws hs).holders b ≡ 0 → laid (set ws (16 * b) w) hs ≡ laid ws hs
-after_link ws hs b w e =
-    ap (λ (n : ℕ). laid_in n (set ws (16 * b) w) hs) (room_same ws (set ws (16 * b) w) hs hs (length-set ws (16 * b) w) refl)
-    ∙ same_blocks (laid ws hs) (laid_in (room ws hs) (set ws (16 * b) w) hs) refl (λ c. refl) word
-  where
-    word : (c j : ℕ) → word_in (room ws hs) (set ws (16 * b) w) hs c j ≡ word_in (room ws hs) ws hs c j
-    word c j = elim (dec_lt j 16) [
-      | no q ↦ grind (arith, nat_tests)
-      | yes q ↦ elim (ℕ_discrete c b) [
-        | yes y ↦ let x = ap (held_in (room ws hs) hs) y in grind (arith, nat_tests)
-        | no d ↦ let x = get_or-set_other ws (16 * b) (16 * c + j) w 0 (λ f. d (omega arith)) in grind (arith, nat_tests)
-      ]
-    ]
 
 -- a block that has holders is one of the blocks, and its cell counts them
 pub cell_held : (ws hs : List ℕ) (b : ℕ) → 0 < (laid ws hs).holders b → (b < room ws hs) × ((laid ws hs).holders b ≡ get_or hs b 0)

@@ -1,7 +1,7 @@
 -- What freeing all blocks, and putting one out, leave of the cells.
 use Rattle.std.proofs.Common.{◌≡◌, ℕ, ◌+◌, ◌-◌, ◌*◌, ◌<◌, ◌≤◌, List, length, get_or, set, replicate, ◌++◌, drop, refl, ap, ◌∙◌, inl, inr, arith, rules}
 use borrow.Rule.Slice.PartMut.{put_mid}
-use base.Fml.{GName}
+use Rattle.std.specs.Borrow.{GName}
 use Rattle.std.proofs.lemmas.List.{get_or-set_same, get_or-set_other, get_or_append_left, length-set, length-append, length-drop, length-replicate, get_or-replicate, drop-set-lt, places}
 use Rattle.std.proofs.lemmas.Slice.{drop-put_mid, drop-append-drop}
 use Rattle.std.proofs.lemmas.Bool.{cases_lt}

@@ -1,9 +1,9 @@
 -- What the answers of a slab tell.
-use Rattle.std.proofs.Common.{◌≡◌, ℕ, ◌+◌, ◌*◌, ◌<◌, true, false, eqb, ltb, Ok, ap, ◌∙◌, arith}
+use Rattle.std.proofs.Common.{◌≡◌, ℕ, ◌+◌, ◌*◌, ◌<◌, true, false, eqb, ltb, Ok, arith}
 use Rattle.std.proofs.lemmas.Bool.Decides.{nat_tests}
 use Rattle.block.specs.Blocks.{Blocks, is_free}
 use Rattle.block.specs.Calls.{refused_if}
-use Rattle.block.proofs.Answered.{accepted, passed, same_value, free_false, held_false}
+use Rattle.block.proofs.Answered.{accepted, same_value, free_false}
 use Rattle.layout.specs.Layout.{place_answer, release_tells}
 
 -- a word that has a place is one of a block that is out
@@ -12,9 +12,6 @@ placed m b i k e =
     let a = accepted (is_free m b) 2 (refused_if (ltb 15 i) 4 (Ok (16 * b + i))) k e in
     let d = accepted (ltb 15 i) 4 (Ok (16 * b + i)) k a.1 in
     let t = d.0 in (free_false m b a.0, grind (arith, nat_tests), same_value k (16 * b + i) d.1)
-
-pub release_told : (m : Blocks) (b x : ℕ) → 0 < m.holders b → x ≡ m.holders b → Ok (eqb x 1) ≡ release_tells m b
-release_told m b x h e = ap (λ (y : ℕ). Ok (eqb y 1)) e ∙ passed (is_free m b) 2 (Ok (eqb (m.holders b) 1)) (held_false m b h)
 
 -- a release that freed the block took its last holder
 pub freed : (m : Blocks) (b : ℕ) → Ok true ≡ release_tells m b → m.holders b ≡ 1

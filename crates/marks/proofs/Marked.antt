@@ -1,18 +1,17 @@
 -- The bits of a map, and what they tell of a store.
-use Rattle.std.proofs.Common.{◌≡◌, ℕ, zero, suc, ◌+◌, ◌-◌, ◌*◌, ◌/◌, ◌%◌, ◌^◌, ◌<◌, ◌≤◌, ◌≢◌, List, length, get_or, set, bit_xor, sym, refl, ap, ◌∙◌, subst, ap₂, inl, inr, ⊎_elim, arith}
-use native.Mathlib.Decide.{ℕ_discrete}
-use lib.Count.{ones}
-use Rattle.std.specs.Int.{w32, bit_at, trailing_ones}
+use Rattle.std.proofs.Common.{◌≡◌, ℕ, zero, suc, ◌+◌, ◌-◌, ◌*◌, ◌/◌, ◌%◌, ◌^◌, ◌<◌, ◌≤◌, ◌≢◌, List, length, get_or, set, bit_xor, sym, refl, ap, ◌∙◌, ap₂, inl, inr, ⊎_elim, arith}
+use lib.Count.{ones, count_trailing_zeros}
+use Rattle.std.specs.Int.{bit_at}
 use Rattle.std.specs.List.{sum_by}
 use Rattle.std.proofs.lemmas.List.{get_or-set_same, get_or-set_other, take_all}
 use Rattle.std.proofs.lemmas.Bool.{cases_lt, cases_eq}
 use Rattle.std.proofs.lemmas.Bool.Decides.{nat_tests}
-use Rattle.std.proofs.lemmas.Nat.Bits.{bit_at-lt, bit_at_ones, bit_at-trailing_ones}
-use Rattle.block.specs.Blocks.{Blocks, all_free, sum_to, spare, free_count}
+use Rattle.std.proofs.lemmas.Nat.Bits.{bit_at-lt, bit_at_ones}
+use Rattle.block.specs.Blocks.{Blocks, sum_to, spare, free_count}
 use Rattle.block.specs.Calls.{taken, released}
 use Rattle.block.proofs.Sums.{sum_join, sum_same, sum_zero, sum_suc, sum_count, sum_ones, sum_taken}
 use Rattle.marks.specs.Map.{mark, gone, Marks}
-use Rattle.marks.proofs.Digits.{sum_bits, turned_same, turned_other}
+use Rattle.marks.proofs.Digits.{lowest_zero, sum_bits, turned_same, turned_other}
 
 -- the map with the bit of number b turned
 abbrev turned : List ℕ → ℕ → List ℕ
@@ -74,9 +73,9 @@ ones_most ms = sum_ones 16384 (mark ms) (λ k l. omega (arith, bit_at-lt (get_or
 
 -- the lowest number whose bit is 0, in the first word that has one
 pub lowest_in_word : (ms : List ℕ) (from w : ℕ) → get_or ms w 0 < 2 ^ 32 → get_or ms w 0 ≢ 4294967295 → ((v : ℕ) → from ≤ v → v < w → get_or ms v 0 ≡ 4294967295)
-    → let t = trailing_ones w32 (get_or ms w 0) in (t < 32) × (mark ms (32 * w + t) ≡ 0) × ((k : ℕ) → 32 * from ≤ k → k < 32 * w + t → mark ms k ≡ 1)
+    → let t = count_trailing_zeros 32 (4294967295 - get_or ms w 0) in (t < 32) × (mark ms (32 * w + t) ≡ 0) × ((k : ℕ) → 32 * from ≤ k → k < 32 * w + t → mark ms k ≡ 1)
 lowest_in_word ms from w fits some before =
-    let z = bit_at-trailing_ones w32 (get_or ms w 0) (omega arith) in (
+    let z = lowest_zero (get_or ms w 0) fits (omega arith) in (
       z.0,
       mark_in_word ms w _ z.0 ∙ z.1,
       λ k a l. elim (cases_lt k (32 * w)) [
@@ -111,60 +110,19 @@ ones_told ms m n l h =
     )
 
 -- a number whose bit is 0 can be taken
-unmarked : (m : Blocks) (k : ℕ) → gone m k ≡ 0 → (k < m.size) × (m.holders k ≡ 0)
-unmarked m k e = (grind (arith, nat_tests), grind (arith, nat_tests))
+pub unmarked : (ms : List ℕ) (m : Blocks) (k : ℕ) → Marks ms m → k < 16384 → mark ms k ≡ 0 → (k < m.size) × (m.holders k ≡ 0)
+unmarked ms m k h few clear = let e = h k few in (grind (arith, nat_tests), grind (arith, nat_tests))
 
--- a number whose bit is 1 is out, if it is one of the store's
-marked_out : (m : Blocks) (k : ℕ) → gone m k ≡ 1 → k < m.size → 0 < m.holders k
-marked_out m k e l = grind (arith, nat_tests)
+-- the bit of a number that is taken turned
+pub taken_marks : (ms ms' : List ℕ) (m : Blocks) (b : ℕ) → Marks ms m → mark ms b ≡ 0 → mark ms' b ≡ 1 - mark ms b → ((k : ℕ) → k ≢ b → mark ms' k ≡ mark ms k) → Marks ms' (taken m b)
+taken_marks ms ms' m b h free turn others k l = elim (cases_eq k b) [
+  | inl y ↦ ap (mark ms') y ∙ turn ∙ ap (λ (x : ℕ). 1 - x) free ∙ (let z : gone (taken m b) k ≡ 1 = grind (arith, nat_tests) in sym z)
+  | inr d ↦ others k d ∙ h k l ∙ (let z : gone (taken m b) k ≡ gone m k = grind (arith, nat_tests) in sym z)
+]
 
--- the lowest number whose bit is 0 is free, and those below it are out
-pub record Lowest (ms : List ℕ) (m : Blocks) (b : ℕ) : Type 0 where
-  pub below : b < m.size
-  pub free : m.holders b ≡ 0
-  pub lower : (k : ℕ) → k < b → mark ms k ≡ 1
-  pub out : (k : ℕ) → k < b → 0 < m.holders k
-
-pub lowest_found : (ms : List ℕ) (m : Blocks) (from b : ℕ) → Marks ms m → ((k : ℕ) → k < 32 * from → k < 16384 → mark ms k ≡ 1) → b < 16384 → mark ms b ≡ 0
-    → ((k : ℕ) → 32 * from ≤ k → k < b → mark ms k ≡ 1) → Lowest ms m b
-lowest_found ms m from b marks before few clear after =
-    let u = unmarked m b (sym (marks b few) ∙ clear) in
-    let lower : (k : ℕ) → k < b → mark ms k ≡ 1 = λ k l. elim (cases_lt k (32 * from)) [ inl h ↦ before k h (omega arith) | inr h ↦ after k h l ] in
-    record {
-      below = u.0;
-      free = u.1;
-      lower = lower;
-      out = λ k l. marked_out m k (sym (marks k (omega arith)) ∙ lower k l) (omega (arith, u.0));
-    }
-
-module _ (ms ms' : List ℕ) (m : Blocks) (b : ℕ) (h : Marks ms m) (few : b < 16384)
-    (same : mark ms' b ≡ 1 - mark ms b) (others : (k : ℕ) → (k ≡ b → ⊥) → mark ms' k ≡ mark ms k) where
-  flipped_up : mark ms b ≡ 0 → mark ms' b ≡ 1
-  flipped_up e = same ∙ ap (λ (x : ℕ). 1 - x) e
-
-  flipped_down : mark ms b ≡ 1 → mark ms' b ≡ 0
-  flipped_down e = same ∙ ap (λ (x : ℕ). 1 - x) e
-
-  pub taken_marks : mark ms b ≡ 0 → Marks ms' (taken m b)
-  taken_marks e k l = elim (ℕ_discrete k b) [
-    | yes y ↦ ap (mark ms') y ∙ flipped_up e ∙ (let z : gone (taken m b) k ≡ 1 = grind (arith, nat_tests) in sym z)
-    | no d ↦ others k d ∙ h k l ∙ (let z : gone (taken m b) k ≡ gone m k = grind (arith, nat_tests) in sym z)
-  ]
-
-  pub freed_marks : b < m.size → m.holders b ≡ 1 → Marks ms' (released m b)
-  freed_marks s e k l = elim (ℕ_discrete k b) [
-    | yes y ↦
-        let g : gone m b ≡ 1 = grind (arith, nat_tests) in
-        ap (mark ms') y ∙ flipped_down (h b few ∙ g) ∙ (let z : gone (released m b) k ≡ 0 = grind (arith, nat_tests) in sym z)
-    | no d ↦ others k d ∙ h k l ∙ (let z : gone (released m b) k ≡ gone m k = grind (arith, nat_tests) in sym z)
-  ]
-
--- ---- making
-
--- the bits of the first n numbers turned, from a map of ones
-pub fresh_marks : (ms : List ℕ) (m : Blocks) (n : ℕ) → m ≡ all_free n → ((k : ℕ) → k < n → k < 16384 → mark ms k ≡ 0) → ((k : ℕ) → n ≤ k → k < 16384 → mark ms k ≡ 1) → Marks ms m
-fresh_marks ms m n e low high = subst (Marks ms) (sym e) (λ k l.
-    elim (cases_lt k n) [
-      | inl h ↦ low k h l ∙ (let z : gone (all_free n) k ≡ 0 = grind (arith, nat_tests) in sym z)
-      | inr h ↦ high k h l ∙ (let z : gone (all_free n) k ≡ 1 = grind (arith, nat_tests) in sym z)
-    ])
+-- a release that leaves other holders
+pub shared_marks : (ms : List ℕ) (m : Blocks) (b : ℕ) → Marks ms m → 1 < m.holders b → Marks ms (released m b)
+shared_marks ms m b h more k l = elim (cases_eq k b) [
+  | inl y ↦ h k l ∙ (let t = ap m.holders y in let z : gone m k ≡ gone (released m b) k = grind (arith, nat_tests) in z)
+  | inr d ↦ h k l ∙ (let z : gone m k ≡ gone (released m b) k = grind (arith, nat_tests) in z)
+]

@@ -1,4 +1,4 @@
-use Rattle.std.proofs.Common.{◌≡◌, ℕ, ◌+◌, ◌*◌, ◌<◌, ◌≢◌, List, set, get_or, sym, refl, ap, ◌∙◌, ap₂, arith, below_more}
+use Rattle.std.proofs.Common.{◌≡◌, ℕ, ◌+◌, ◌*◌, ◌<◌, ◌≢◌, List, set, get_or, sym, ap, ◌∙◌, arith, below_more}
 use Rattle.std.proofs.lemmas.List.{get_or-set_same, get_or-set_other}
 use Rattle.std.proofs.lemmas.Bool.{lt-ltb, cond-true}
 use Rattle.std.specs.List.{range_with_len}
@@ -8,14 +8,6 @@ use Rattle.layout.specs.Layout.{room}
 use Rattle.layout.proofs.Layouts.{room_words}
 use Rattle.links.proofs.Makings.{made_order, made_threads}
 use Rattle.chain_store.proofs.store.ChainStore.new.Goals as goal
-
-pub loop-b-init : goal.loop-b-init
-loop-b-init c = record {
-  size = c.size-size.ensures ∙ ap₂ room c.view.ensures.words c.view.ensures.cells ∙ ap (λ (m : Blocks). m.size) c.clear.ensures.after ∙ ap₂ room c.new-slab.ensures.words c.new-slab.ensures.cells;
-  free = c.clear.ensures.after ∙ ap all_free (ap₂ room c.new-slab.ensures.words c.new-slab.ensures.cells);
-  stays = refl;
-  links = λ k l. absurd (omega arith);
-}
 
 pub loop-b-preserved : goal.loop-b-preserved
 loop-b-preserved c =
@@ -39,9 +31,6 @@ invariant_of-result c =
     let v = c.loop-b.invariant in
     let n = room c.args.words.now c.args.cells.now in
     record { threads = made_threads (held c.loop-b.slab) c.loop-b.slab.words.now c.size-size.result (v.free ∙ ap all_free (sym v.size)) (λ k l. v.links k (omega arith)) }
-
-pub returns-clause-after : goal.returns-clause-after
-returns-clause-after c = c.loop-b.invariant.free
 
 pub returns-clause-order : goal.returns-clause-order
 returns-clause-order c =

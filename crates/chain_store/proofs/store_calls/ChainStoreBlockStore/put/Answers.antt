@@ -19,15 +19,9 @@ invariant_of-self c =
           (subst (Threads (order s)) (sym told.after) (written_threads (order s) (held s) c.args.b c.args.i c.args.w c.put.result s.threads));
     }
 
-pub returns : goal.returns
-returns c =
+pub returns-clause-order : goal.returns-clause-order
+returns-clause-order c =
     let s = c.args.self.now in
     let told = c.put.ensures in
-    record {
-      answer = told.answer;
-      after = told.after;
-      stays = told.stays;
-      order =
-          ap (λ (x : List ℕ). chain x s.top s.free) told.words
-          ∙ put_chain s.slab.words.now s.top s.free (held s) c.args.b c.args.i c.args.w c.put.result told.answer s.threads.unheld;
-    }
+    ap (λ (x : List ℕ). chain x s.top s.free) told.words
+    ∙ put_chain s.slab.words.now s.top s.free (held s) c.args.b c.args.i c.args.w c.put.result told.answer s.threads.unheld

@@ -1,6 +1,5 @@
 use Rattle.std.proofs.Common.{ℕ, List, ◌∷◌, Ok, sym, ap, ◌∙◌, subst, arith}
 use Rattle.std.proofs.lemmas.Bool.{eq-eqb, cond-true}
-use Rattle.block.proofs.Answered.{release_ok}
 use Rattle.block.proofs.Counts.{count_most}
 use Rattle.block_slab.specs.Held as slabs
 use Rattle.layout.proofs.Places.{freed, not_freed}
@@ -33,17 +32,12 @@ invariant_of-self-else-branch c =
           (subst (Threads (order s)) (sym told.after) (listed_released (order s) (held s) b more s.threads));
     }
 
-pub returns-then-branch : goal.returns-then-branch
-returns-then-branch c =
+pub returns-then-branch-clause-order : goal.returns-then-branch-clause-order
+returns-then-branch-clause-order c =
     let s = c.args.self.now in
     let b = c.args.b in
     let told = c.in_ok-release.ensures in
     let link = c.link.ensures in
     let last = freed (held s) b (ap Ok (sym c.if-branch.true) ∙ told.answer) in
     let f = freed_store s b c.release.new.self c.link.new.self last told.after told.words link.after link.words in
-    record {
-      answer = release_ok (held s) b (omega arith);
-      after = f.after;
-      stays = link.stays ∙ told.stays;
-      order = f.pushed ∙ sym (cond-true _ (b ∷ order s) (order s) (eq-eqb ((held s).holders b) 1 last));
-    }
+    f.pushed ∙ sym (cond-true _ (b ∷ order s) (order s) (eq-eqb ((held s).holders b) 1 last))

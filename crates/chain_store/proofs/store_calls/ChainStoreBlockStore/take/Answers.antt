@@ -5,10 +5,10 @@ use Rattle.chain_store.specs.Order.{held}
 use Rattle.chain_store.proofs.Stores.{free_counted, popped_store}
 use Rattle.chain_store.proofs.store_calls.ChainStoreBlockStore.take.Goals as goal
 
-pub returns-then-self-eq0 : goal.returns-then-self-eq0
-returns-then-self-eq0 c =
+pub returns-then-self-eq0-clause-after : goal.returns-then-self-eq0-clause-after
+returns-then-self-eq0-clause-after c =
     let s = c.args.self.now in
-    record { after = record { why = refl; none = none_left (held s) (sym (free_counted s) ∙ c.if-self-eq0.true); is = refl }; stays = refl; order = refl }
+    record { why = refl; none = none_left (held s) (sym (free_counted s) ∙ c.if-self-eq0.true); is = refl }
 
 pub invariant_of-self : goal.invariant_of-self
 invariant_of-self c =

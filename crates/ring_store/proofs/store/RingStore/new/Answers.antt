@@ -9,5 +9,5 @@ zeros k l = get_or-replicate 128 k 0 0 l
 pub invariant_of-result : goal.invariant_of-result
 invariant_of-result c = record { full = refl; all = refl; near = omega arith; fits = free_fits (replicate 2048 0) (replicate 128 0) (replicate 128 0) refl zeros }
 
-pub returns : goal.returns
-returns c = record { after = laid_free (replicate 2048 0) (replicate 128 0) (replicate 128 0) refl zeros; last = refl }
+pub returns-clause-after : goal.returns-clause-after
+returns-clause-after c = laid_free (replicate 2048 0) (replicate 128 0) (replicate 128 0) refl zeros
