@@ -4,17 +4,17 @@ ghost use Rattle.block.specs.Refusals.{number};
 
 use std::fmt;
 
-// Why a store refused a call; a refused call alters no block.
+// Why a store refused a call, by its fixed number; a refused call alters no block.
 #[derive(Clone, Copy, PartialEq, Eq, Debug)]
 pub enum Refusal {
     // `take`: every number is out
-    NoneFree,
+    NoneFree = 1,
     // the block that the call names is not out
-    NotOut,
+    NotOut = 2,
     // `keep`: the block has 65,535 holders
-    TooMany,
+    TooMany = 3,
     // `get` and `put`: a block has no such word
-    NoWord,
+    NoWord = 4,
 }
 
 impl Refusal {
@@ -22,12 +22,7 @@ impl Refusal {
     pub fn number(self) -> u8
         ensures { result ≡ number self }
     {
-        match self {
-            Refusal::NoneFree => 1,
-            Refusal::NotOut => 2,
-            Refusal::TooMany => 3,
-            Refusal::NoWord => 4,
-        }
+        self as u8
     }
 
     // What was wrong, for a person.

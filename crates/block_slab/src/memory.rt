@@ -1,5 +1,5 @@
 // The memory of a store, lent for as long as the store works on it.
-ghost use Rattle.std.specs.Prelude.{◌≡◌, [], ◌∷◌};
+ghost use Rattle.std.specs.Prelude.{◌≡◌};
 ghost use Rattle.layout.specs.Layout.{Fits, laid};
 
 use crate::views::SlabView;
@@ -19,8 +19,8 @@ impl<'a> Slab<'a> {
     pub fn new(words: &'a mut [u32], cells: &'a mut [u16]) -> Slab<'a>
         ensures words { result.words.now ≡ words.old }
         ensures cells { result.cells.now ≡ cells.old }
-        ensures names_words { result.words.ghost_name ≡ words.entry.ghost_name }
-        ensures names_cells { result.cells.ghost_name ≡ cells.entry.ghost_name }
+        ensures words_name { result.words.ghost_name ≡ words.entry.ghost_name }
+        ensures cells_name { result.cells.ghost_name ≡ cells.entry.ghost_name }
     {
         Slab { words, cells }
     }

@@ -2,7 +2,7 @@
 ghost use Rattle.std.specs.Prelude.{◌≡◌, ◌*◌, ◌<◌, if◌then◌else◌, nat_lt, not, slice_index, T};
 ghost use Rattle.block.specs.Blocks.{free_count, is_free};
 ghost use Rattle.block.specs.Calls.{get_answer, holders_answer};
-ghost use Rattle.layout.specs.Layout.{place_answer, room};
+ghost use Rattle.layout.specs.Layout.{place_answer};
 ghost use Rattle.block_slab.specs.Held.{shown};
 
 use crate::views::SlabView;
@@ -11,7 +11,7 @@ use block::Refusal;
 impl SlabView<'_> {
     // How many blocks the memory has room for: at most 16,384.
     pub fn size(&self) -> usize
-        ensures { result ≡ room self.now.words.now self.now.cells.now }
+        ensures { result ≡ (shown self.now).size }
     {
         (self.words.len() / 16).min(self.cells.len()).min(16384)
     }
