@@ -1,6 +1,7 @@
 // Snapshots that the program makes and looks at, over any store.
 use block::BlockStore;
-use kinds::{Dots, LayerRecord, LayerRecords};
+use ink::{Channels, Dot};
+use kinds::{Dots, LayerRecords};
 use root::{Part, Root};
 use std::fmt;
 use tree::{CellKind, OneCell};
@@ -30,10 +31,10 @@ impl fmt::Display for Seen {
 
 fn alpha<S: BlockStore>(store: &S, root: Root, index: u32) -> u8 {
     let dots = root.tree(store, Part { number: 0 });
-    dots.read::<S, Dots>(store, index).channels().alpha
+    Channels::from(dots.read::<S, Dots>(store, index)).alpha
 }
 
-fn layer<S: BlockStore>(store: &S, root: Root, index: u32) -> LayerRecord {
+fn layer<S: BlockStore>(store: &S, root: Root, index: u32) -> Option<u8> {
     let records = root.tree(store, Part { number: 9 });
     records.read::<S, LayerRecords>(store, index)
 }
@@ -45,8 +46,8 @@ pub fn see<S: BlockStore>(store: &S, root: Root) -> Seen {
     let first = alpha(store, root, 149);
     let second = alpha(store, root, 165);
     match layer(store, root, 3) {
-        LayerRecord::Absent => Seen::Bare(first, second),
-        LayerRecord::Opacity(opacity) => Seen::Layered(first, second, opacity),
+        None => Seen::Bare(first, second),
+        Some(opacity) => Seen::Layered(first, second, opacity),
     }
 }
 
@@ -67,12 +68,12 @@ fn edit<S: BlockStore>(store: &mut S, root: Root, part: Part, plan: OneCell) -> 
 
 // The snapshot with a dot painted black, or none where the blocks do not suffice.
 pub fn paint<S: BlockStore>(store: &mut S, root: Root, index: u32) -> Root {
-    let word = Dots::pack(ink::Dot::black());
+    let word = Dots::pack(Dot::black());
     edit(store, root, Part { number: 0 }, OneCell { index, word })
 }
 
 // The snapshot with a record for a layer.
 pub fn record<S: BlockStore>(store: &mut S, root: Root, index: u32, opacity: u8) -> Root {
-    let word = LayerRecords::pack(LayerRecord::Opacity(opacity));
+    let word = LayerRecords::pack(Some(opacity));
     edit(store, root, Part { number: 9 }, OneCell { index, word })
 }

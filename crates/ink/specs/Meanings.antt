@@ -8,8 +8,10 @@
 --   KeepsBlank   the blank law: blank ink leaves every dot unaltered
 --   dots_of       a row of dots
 --   laid_row      a row of inks laid on a row of dots, place by place; where the inks end, the dots stay
+--   MakesDot      what is made of four numbers: the dot that they are, or the refusal where a colour is above alpha
+--   MakesRule     what is made of a number: the rule that it numbers, or the refusal above 1
 --   fault_of      what is wrong with a pen that cannot be made: the side before the rule, the rule before the colour
-use Rattle.std.specs.Prelude.{◌≡◌, ℕ, cond, not, List, [], ◌∷◌, map, nat_lt}
+use Rattle.std.specs.Prelude.{◌≡◌, ℕ, ◌<◌, ◌≤◌, true, false, cond, not, List, [], ◌∷◌, map, nat_lt, Result, MatchResult}
 use Rattle.std.proofs.Math.Option.{Option, none, some}
 use Rattle.rules.specs.Dots as dots
 use Rattle.rules.specs.Pens as pens
@@ -48,6 +50,15 @@ rule_of Erase = dots.erase
 
 abbrev pub pen_of : Pen → pens.Pen
 pen_of p = record { ink = dot_of p.ink; side = p.side; rule = rule_of p.rule }
+
+abbrev pub MakesDot : Channels → Result Dot refusal.PenRefusal → Type 0
+MakesDot c result =
+    MatchResult result (λ d. (dot_of d ≡ channels_of c) × (pens.good_ink (channels_of c) ≡ true))
+    (λ e. (e ≡ refusals.Colour) × (pens.good_ink (channels_of c) ≡ false))
+
+abbrev pub MakesRule : ℕ → Result rule.Rule refusal.PenRefusal → Type 0
+MakesRule number result =
+    MatchResult result (λ rule. (rule_of rule ≡ pens.rule_numbered number) × (number ≤ 1)) (λ e. (e ≡ refusals.Rule number) × (1 < number))
 
 abbrev pub fault_of : Channels → ℕ → ℕ → Option refusal.PenRefusal
 fault_of c side number =

@@ -4,7 +4,7 @@ ghost use Rattle.std.specs.Prelude.{◌≤◌};
 mod calls;
 
 // Four numbers as they are given, which need not be those of a dot.
-#[derive(Clone, Copy)]
+#[derive(Clone, Copy, Debug, PartialEq, Eq)]
 pub struct Channels {
     pub red: u8,
     pub green: u8,
@@ -13,7 +13,7 @@ pub struct Channels {
 }
 
 // A dot, which cannot hold a colour above its alpha.
-#[derive(Clone, Copy)]
+#[derive(Clone, Copy, Debug, PartialEq, Eq)]
 pub struct Dot {
     red: u8,
     green: u8,

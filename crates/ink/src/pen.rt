@@ -8,7 +8,7 @@ use crate::dot::Dot;
 use crate::rule::Rule;
 
 // A pen: an ink, a side that is 1, 3, 5 or 7, and a rule.
-#[derive(Clone, Copy)]
+#[derive(Clone, Copy, Debug, PartialEq, Eq)]
 pub struct Pen {
     ink: Dot,
     side: u8,

@@ -2,9 +2,10 @@
 ghost use Rattle.std.specs.Prelude.{◌≡◌, [], ◌∷◌};
 ghost use Rattle.ink.specs.Meanings.{numbers_of};
 
+use std::error::Error;
 use std::fmt;
 
-#[derive(Clone, Copy)]
+#[derive(Clone, Copy, Debug, PartialEq, Eq)]
 pub enum PenRefusal {
     // a side that is not 1, 3, 5 or 7
     Side(u8),
@@ -20,9 +21,7 @@ impl PenRefusal {
         ensures value { result ∷ [] ≡ numbers_of self }
     {
         match self {
-            PenRefusal::Side(_) => 18,
-            PenRefusal::Rule(_) => 18,
-            PenRefusal::Colour => 18,
+            PenRefusal::Side(_) | PenRefusal::Rule(_) | PenRefusal::Colour => 18,
         }
     }
 }
@@ -41,3 +40,5 @@ impl fmt::Display for PenRefusal {
         }
     }
 }
+
+impl Error for PenRefusal {}

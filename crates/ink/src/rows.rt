@@ -25,8 +25,7 @@ pub fn lay_ink<R: InkRule>(rule: &R, ink: Dot, dots: &mut [Dot])
 pub fn lay_row<R: InkRule>(rule: &R, inks: &[Dot], dots: &mut [Dot])
     ensures after { dots_of dots.new ≡ laid_row (R.InkRule.lays rule.now) (dots_of inks.now) (dots_of dots.old) }
 {
-    let count = inks.len().min(dots.len());
-    for i in 0..count {
-        lay_on(rule, inks[i], &mut dots[i]);
+    for (i, ink) in inks.iter().enumerate().take(dots.len()) {
+        lay_on(rule, *ink, &mut dots[i]);
     }
 }

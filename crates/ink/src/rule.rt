@@ -18,21 +18,21 @@ pub trait InkRule {
 }
 
 // Ink covers the dot as far as it is opaque.
-#[derive(Clone, Copy)]
+#[derive(Clone, Copy, Debug, PartialEq, Eq)]
 pub struct Over;
 
 // Ink takes away of the dot as far as it is opaque.
-#[derive(Clone, Copy)]
+#[derive(Clone, Copy, Debug, PartialEq, Eq)]
 pub struct Erase;
 
 // Over, after an opacity: how a layer is laid on those below it.
-#[derive(Clone, Copy)]
+#[derive(Clone, Copy, Debug, PartialEq, Eq)]
 pub struct OverAt {
     pub opacity: u8,
 }
 
 // A rule by its name, as a pen has it.
-#[derive(Clone, Copy)]
+#[derive(Clone, Copy, Debug, PartialEq, Eq)]
 pub enum Rule {
     Over,
     Erase,

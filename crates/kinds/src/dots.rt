@@ -49,21 +49,19 @@ impl CellKind for Dots {
             green,
             blue,
             alpha,
-        } = cell.channels();
-        red as u32 * 16777216 + green as u32 * 65536 + blue as u32 * 256 + alpha as u32
+        } = Channels::from(cell);
+        u32::from_be_bytes([red, green, blue, alpha])
     }
 
     // A word that is no dot's, with a colour above alpha, reads as blank.
     fn unpack(word: u32) -> Dot {
+        let [red, green, blue, alpha] = word.to_be_bytes();
         let channels = Channels {
-            red: (word / 16777216) as u8,
-            green: (word / 65536 % 256) as u8,
-            blue: (word / 256 % 256) as u8,
-            alpha: (word % 256) as u8,
+            red,
+            green,
+            blue,
+            alpha,
         };
-        match Dot::new(channels) {
-            Ok(dot) => dot,
-            Err(_) => Dot::blank(),
-        }
+        Dot::try_from(channels).unwrap_or(Dot::blank())
     }
 }

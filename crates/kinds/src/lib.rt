@@ -6,5 +6,5 @@ mod records;
 mod strips;
 
 pub use dots::Dots;
-pub use records::{LayerRecord, LayerRecords};
+pub use records::LayerRecords;
 pub use strips::{Strip, Strips};

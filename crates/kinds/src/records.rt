@@ -7,20 +7,11 @@ ghost use Rattle.kinds.specs.Packings.{one_low, record_back};
 
 use tree::CellKind;
 
-// What a sheet says of one of its layers.
-#[derive(Clone, Copy)]
-pub enum LayerRecord {
-    // there is no such layer
-    Absent,
-    // there is, with this opacity
-    Opacity(u8),
-}
-
-// The kind of layer records: a record packs into 256 and its opacity.
+// The kind of layer records. A record is the opacity of a layer, or none where there is no such layer; one packs into 256 and its opacity.
 pub struct LayerRecords {}
 
 impl CellKind for LayerRecords {
-    type Cell = LayerRecord;
+    type Cell = Option<u8>;
 
     ghost depth = { 1 };
 
@@ -46,23 +37,20 @@ impl CellKind for LayerRecords {
         1
     }
 
-    fn blank() -> LayerRecord {
-        LayerRecord::Absent
+    fn blank() -> Option<u8> {
+        None
     }
 
-    fn pack(cell: LayerRecord) -> u32 {
-        match cell {
-            LayerRecord::Absent => 0,
-            LayerRecord::Opacity(opacity) => 256 + opacity as u32,
-        }
+    fn pack(cell: Option<u8>) -> u32 {
+        cell.map_or(0, |opacity| 256 + u32::from(opacity))
     }
 
     // A word that is no record's reads as the record of its lowest byte, or as none below 256.
-    fn unpack(word: u32) -> LayerRecord {
+    fn unpack(word: u32) -> Option<u8> {
         if word < 256 {
-            LayerRecord::Absent
+            None
         } else {
-            LayerRecord::Opacity((word % 256) as u8)
+            Some((word % 256) as u8)
         }
     }
 }

@@ -5,7 +5,7 @@ ghost use Rattle.kinds.specs.Packings.{three_low};
 use tree::CellKind;
 
 // 32 dots of a row, the leftmost highest: a bit that is set protects its dot.
-#[derive(Clone, Copy)]
+#[derive(Clone, Copy, Debug, PartialEq, Eq)]
 pub struct Strip {
     pub bits: u32,
 }

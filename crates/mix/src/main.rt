@@ -22,35 +22,32 @@ A request that the rules refuse is answered 'refused NUMBER: REASON'.
 
 // The arguments after the program's name, as one line; none where there are none.
 fn request_of_arguments(rt: &HostRuntime) -> io::Result<Option<String>> {
-    let heap = rt.alloc();
-    let mut request = String::new(heap);
-    let mut count = 0u32;
-    for word in env::args(rt)?.skip(1) {
-        if count > 0 {
-            request.push(' ')?;
-        }
+    let mut words = env::args(rt)?.skip(1);
+    let Some(mut request) = words.next() else {
+        return Ok(None);
+    };
+    for word in words {
+        request.push(' ')?;
         request.push_str(word.as_str())?;
-        count = count.saturating_add(1);
     }
-    if count == 0 {
-        Ok(None)
-    } else {
-        Ok(Some(request))
+    Ok(Some(request))
+}
+
+// Prints what a request comes to, on a line of its own.
+fn answer(rt: &HostRuntime, request: &str) -> io::Result<()> {
+    match answer_line(rt.alloc(), request)? {
+        Ok(dot) => rt.println(dot),
+        Err(fault) => rt.println(fault),
     }
 }
 
 fn main(rt: HostRuntime) -> io::Result<()> {
     match request_of_arguments(&rt)? {
-        Some(request) => {
-            if request.as_str() == "--help" {
-                print!(rt; "{HELP}")
-            } else {
-                rt.println(answer_line(rt.alloc(), request.as_str())?)
-            }
-        }
+        Some(request) if request.as_str() == "--help" => print!(rt; "{HELP}"),
+        Some(request) => answer(&rt, request.as_str()),
         None => {
             for line in BufReader::new(rt.alloc(), rt.stdin())?.lines(rt.alloc()) {
-                rt.println(answer_line(rt.alloc(), line?.as_str())?)?;
+                answer(&rt, line?.as_str())?;
             }
             Ok(())
         }

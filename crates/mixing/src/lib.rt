@@ -2,5 +2,7 @@
 #![tactic(auto)]
 
 mod answers;
+mod fault;
 
-pub use answers::{Answer, answer_line, fade, lay};
+pub use answers::{answer_line, fade, lay};
+pub use fault::Fault;

@@ -1,17 +1,19 @@
 // Requests, read from their words.
 use crate::words::{Name, Word};
 use ink::{Channels, Rule};
+use std::error::Error;
 use std::fmt;
+use std::slice::Iter;
 
 // What is asked for.
-#[derive(Clone, Copy)]
+#[derive(Clone, Copy, Debug, PartialEq, Eq)]
 pub enum Request {
     Lay(Rule, Channels, Channels),
     Fade(Channels, u8),
 }
 
 // What was wanted at a place.
-#[derive(Clone, Copy)]
+#[derive(Clone, Copy, Debug, PartialEq, Eq)]
 pub enum Wanted {
     Name(Name),
     Number,
@@ -20,8 +22,19 @@ pub enum Wanted {
     Way,
 }
 
-// A place among the words, from 0, at which something else was wanted.
-#[derive(Clone, Copy)]
+impl fmt::Display for Wanted {
+    fn fmt<W: fmt::Write>(&self, f: &mut fmt::Formatter<W>) -> fmt::Result {
+        f.write_str(match self {
+            Wanted::Name(name) => name.text(),
+            Wanted::Number => "a number from 0 to 255",
+            Wanted::End => "the end",
+            Wanted::Way => "over, erase or fade",
+        })
+    }
+}
+
+// A word, counted from 1, in whose place something else was wanted.
+#[derive(Clone, Copy, Debug, PartialEq, Eq)]
 pub struct Unread {
     place: usize,
     wanted: Wanted,
@@ -29,102 +42,96 @@ pub struct Unread {
 
 impl fmt::Display for Unread {
     fn fmt<W: fmt::Write>(&self, f: &mut fmt::Formatter<W>) -> fmt::Result {
-        let place = self.place.saturating_add(1);
-        let wanted = match self.wanted {
-            Wanted::Name(name) => name.text(),
-            Wanted::Number => "a number from 0 to 255",
-            Wanted::End => "the end",
-            Wanted::Way => "over, erase or fade",
-        };
-        write!(f, "word {place}: wanted {wanted}")
+        write!(f, "word {}: wanted {}", self.place, self.wanted)
     }
 }
 
-fn word_at(words: &[Word], place: usize) -> Word {
-    if place < words.len() {
-        words[place]
-    } else {
-        Word::End
-    }
+impl Error for Unread {}
+
+// The words that are still to be read, and how many were read.
+#[derive(Drop)]
+struct Reader<'a> {
+    words: Iter<'a, Word>,
+    count: usize,
 }
 
-fn expect(words: &[Word], place: usize, name: Name) -> Result<(), Unread> {
-    let wanted = Wanted::Name(name);
-    match word_at(words, place) {
-        Word::Name(found) => {
-            if found as u8 == name as u8 {
-                Ok(())
-            } else {
-                Err(Unread { place, wanted })
-            }
+impl Reader<'_> {
+    fn next(&mut self) -> Option<Word> {
+        self.count = self.count.saturating_add(1);
+        self.words.next().copied()
+    }
+
+    // That the word that was read last is not the one that was wanted.
+    fn unread(&self, wanted: Wanted) -> Unread {
+        Unread {
+            place: self.count,
+            wanted,
         }
-        _ => Err(Unread { place, wanted }),
     }
-}
 
-fn expect_end(words: &[Word], place: usize) -> Result<(), Unread> {
-    if place < words.len() {
-        Err(Unread {
-            place,
-            wanted: Wanted::End,
+    fn name(&mut self, name: Name) -> Result<(), Unread> {
+        match self.next() {
+            Some(Word::Name(found)) if found == name => Ok(()),
+            _ => Err(self.unread(Wanted::Name(name))),
+        }
+    }
+
+    fn number(&mut self) -> Result<u8, Unread> {
+        match self.next() {
+            Some(Word::Number(number)) => Ok(number),
+            _ => Err(self.unread(Wanted::Number)),
+        }
+    }
+
+    fn end(&mut self) -> Result<(), Unread> {
+        match self.next() {
+            None => Ok(()),
+            Some(_) => Err(self.unread(Wanted::End)),
+        }
+    }
+
+    fn channels(&mut self) -> Result<Channels, Unread> {
+        Ok(Channels {
+            red: self.number()?,
+            green: self.number()?,
+            blue: self.number()?,
+            alpha: self.number()?,
         })
-    } else {
-        Ok(())
     }
-}
 
-fn number_at(words: &[Word], place: usize) -> Result<u8, Unread> {
-    match word_at(words, place) {
-        Word::Number(number) => Ok(number),
-        _ => Err(Unread {
-            place,
-            wanted: Wanted::Number,
-        }),
+    // INK on DOT
+    fn lay(&mut self, rule: Rule) -> Result<Request, Unread> {
+        let ink = self.channels()?;
+        self.name(Name::On)?;
+        Ok(Request::Lay(rule, ink, self.channels()?))
     }
-}
 
-fn channels_at(words: &[Word], place: u8) -> Result<Channels, Unread> {
-    let place = place as usize;
-    let red = number_at(words, place)?;
-    let green = number_at(words, place + 1)?;
-    let blue = number_at(words, place + 2)?;
-    let alpha = number_at(words, place + 3)?;
-    Ok(Channels {
-        red,
-        green,
-        blue,
-        alpha,
-    })
-}
+    // INK at OPACITY
+    fn fade(&mut self) -> Result<Request, Unread> {
+        let ink = self.channels()?;
+        self.name(Name::At)?;
+        Ok(Request::Fade(ink, self.number()?))
+    }
 
-// ink over INK on DOT, ink erase INK on DOT
-fn read_lay(words: &[Word], rule: Rule) -> Result<Request, Unread> {
-    let ink = channels_at(words, 2)?;
-    expect(words, 6, Name::On)?;
-    let dot = channels_at(words, 7)?;
-    expect_end(words, 11)?;
-    Ok(Request::Lay(rule, ink, dot))
-}
-
-// ink fade INK at OPACITY
-fn read_fade(words: &[Word]) -> Result<Request, Unread> {
-    let ink = channels_at(words, 2)?;
-    expect(words, 6, Name::At)?;
-    let opacity = number_at(words, 7)?;
-    expect_end(words, 8)?;
-    Ok(Request::Fade(ink, opacity))
+    // over INK on DOT, erase INK on DOT, fade INK at OPACITY
+    fn way(&mut self) -> Result<Request, Unread> {
+        match self.next() {
+            Some(Word::Name(Name::Over)) => self.lay(Rule::Over),
+            Some(Word::Name(Name::Erase)) => self.lay(Rule::Erase),
+            Some(Word::Name(Name::Fade)) => self.fade(),
+            _ => Err(self.unread(Wanted::Way)),
+        }
+    }
 }
 
 // The request that some words spell.
 pub fn read(words: &[Word]) -> Result<Request, Unread> {
-    expect(words, 0, Name::Ink)?;
-    match word_at(words, 1) {
-        Word::Name(Name::Over) => read_lay(words, Rule::Over),
-        Word::Name(Name::Erase) => read_lay(words, Rule::Erase),
-        Word::Name(Name::Fade) => read_fade(words),
-        _ => Err(Unread {
-            place: 1,
-            wanted: Wanted::Way,
-        }),
-    }
+    let mut reader = Reader {
+        words: words.iter(),
+        count: 0,
+    };
+    reader.name(Name::Ink)?;
+    let request = reader.way()?;
+    reader.end()?;
+    Ok(request)
 }

@@ -1,8 +1,13 @@
 // The words that requests are made of.
+ghost use Rattle.std.specs.Prelude.{◌≡◌};
+ghost use Rattle.requests.specs.Spellings.{Spells, spelling};
+
 use std::alloc::{AllocError, Global};
+use std::fmt;
+use std::str::FromStr;
 
 // A word with a meaning of its own.
-#[derive(Clone, Copy)]
+#[derive(Clone, Copy, Debug, PartialEq, Eq)]
 pub enum Name {
     Ink,
     Over,
@@ -12,18 +17,23 @@ pub enum Name {
     At,
 }
 
-// A word of a request; past its end every word is `End`.
-#[derive(Clone, Copy)]
+// A text that is none of the names.
+#[derive(Clone, Copy, Debug, PartialEq, Eq)]
+pub struct UnknownName;
+
+// A word of a request.
+#[derive(Clone, Copy, Debug, PartialEq, Eq)]
 pub enum Word {
     Name(Name),
     Number(u8),
     Other,
-    End,
 }
 
 impl Name {
     // How it is written.
-    pub fn text(self) -> &'static str {
+    pub fn text(self) -> &'static str
+        ensures { result.now ≡ spelling self }
+    {
         match self {
             Name::Ink => "ink",
             Name::Over => "over",
@@ -35,30 +45,41 @@ impl Name {
     }
 }
 
-fn number_or_other(text: &str) -> Word {
-    match text.parse::<u8>() {
-        Ok(number) => Word::Number(number),
-        Err(_) => Word::Other,
+impl fmt::Display for Name {
+    fn fmt<W: fmt::Write>(&self, f: &mut fmt::Formatter<W>) -> fmt::Result {
+        f.write_str(self.text())
+    }
+}
+
+impl FromStr for Name {
+    type Err = UnknownName;
+
+    ghost from_str_gives = { Spells };
+
+    fn from_str(text: &str) -> Result<Name, UnknownName> {
+        match text {
+            "ink" => Ok(Name::Ink),
+            "over" => Ok(Name::Over),
+            "erase" => Ok(Name::Erase),
+            "fade" => Ok(Name::Fade),
+            "on" => Ok(Name::On),
+            "at" => Ok(Name::At),
+            _ => Err(UnknownName),
+        }
     }
 }
 
 fn word_of(text: &str) -> Word {
-    match text {
-        "ink" => Word::Name(Name::Ink),
-        "over" => Word::Name(Name::Over),
-        "erase" => Word::Name(Name::Erase),
-        "fade" => Word::Name(Name::Fade),
-        "on" => Word::Name(Name::On),
-        "at" => Word::Name(Name::At),
-        _ => number_or_other(text),
+    if let Ok(name) = text.parse::<Name>() {
+        Word::Name(name)
+    } else if let Ok(number) = text.parse::<u8>() {
+        Word::Number(number)
+    } else {
+        Word::Other
     }
 }
 
 // The words of a line, in order.
 pub fn words_of(heap: Global, line: &str) -> Result<Vec<Word>, AllocError> {
-    let mut words = Vec::new(heap);
-    for text in line.split_whitespace() {
-        words.push(word_of(text))?;
-    }
-    Ok(words)
+    line.split_whitespace().map(word_of).collect(heap)
 }

@@ -1,19 +1,22 @@
-// Making dots, reading them, fading them, and seeing them on paper.
-ghost use Rattle.std.specs.Prelude.{◌≡◌, ◌≤◌, true, false, MatchResult};
-ghost use Rattle.ink.specs.Meanings.{channels_of, dot_of};
+// Making dots, reading them, printing them, fading them, and seeing them on paper.
+ghost use Rattle.std.specs.Prelude.{◌≡◌, ◌≤◌};
+ghost use Rattle.ink.specs.Meanings.{MakesDot, channels_of, dot_of};
 ghost use Rattle.rules.specs.Bytes.{paper_bytes};
 ghost use Rattle.rules.specs.Dots.{over, erase, blank, faded, laid, same_dot};
-ghost use Rattle.rules.specs.Pens.{black, good_ink};
+ghost use Rattle.rules.specs.Pens.{black};
 
 use crate::channel::scale;
 use crate::dot::{Channels, Dot};
 use crate::refusal::PenRefusal;
+use std::fmt;
 
-impl Dot {
-    // The dot of four numbers; refused where a colour is above alpha.
-    pub fn new(channels: Channels) -> Result<Dot, PenRefusal>
-        ensures answer { MatchResult result (λ d. (dot_of d ≡ channels_of channels) × (good_ink (channels_of channels) ≡ true)) (λ e. (e ≡ PenRefusal.Colour) × (good_ink (channels_of channels) ≡ false)) }
-    {
+// The dot of four numbers; refused where a colour is above alpha.
+impl TryFrom<Channels> for Dot {
+    type Error = PenRefusal;
+
+    ghost try_from_gives = { MakesDot };
+
+    fn try_from(channels: Channels) -> Result<Dot, PenRefusal> {
         let Channels {
             red,
             green,
@@ -30,7 +33,34 @@ impl Dot {
             alpha,
         })
     }
+}
 
+// The four numbers of a dot.
+impl From<Dot> for Channels {
+    ghost from_gives = { λ dot channels. channels_of channels ≡ dot_of dot };
+
+    fn from(dot: Dot) -> Channels {
+        Channels {
+            red: dot.red,
+            green: dot.green,
+            blue: dot.blue,
+            alpha: dot.alpha,
+        }
+    }
+}
+
+// Its four numbers, as they are written in a request.
+impl fmt::Display for Dot {
+    fn fmt<W: fmt::Write>(&self, f: &mut fmt::Formatter<W>) -> fmt::Result {
+        write!(
+            f,
+            "{} {} {} {}",
+            self.red, self.green, self.blue, self.alpha
+        )
+    }
+}
+
+impl Dot {
     // The dot on which nothing was laid.
     pub fn blank() -> Dot
         ensures value { dot_of result ≡ blank }
@@ -52,18 +82,6 @@ impl Dot {
             green: 0,
             blue: 0,
             alpha: 255,
-        }
-    }
-
-    // Its four numbers.
-    pub fn channels(self) -> Channels
-        ensures value { channels_of result ≡ dot_of self }
-    {
-        Channels {
-            red: self.red,
-            green: self.green,
-            blue: self.blue,
-            alpha: self.alpha,
         }
     }
 

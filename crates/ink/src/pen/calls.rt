@@ -14,11 +14,11 @@ impl Pen {
     pub fn new(ink: Channels, side: u8, rule: u8) -> Result<Pen, PenRefusal>
         ensures answer { MatchResult result (λ pen. make_pen (channels_of ink) side rule ≡ some (pen_of pen)) (λ e. (make_pen (channels_of ink) side rule ≡ none) × (fault_of ink side rule ≡ some e)) }
     {
-        if side != 1 && side != 3 && side != 5 && side != 7 {
+        if !matches!(side, 1 | 3 | 5 | 7) {
             return Err(PenRefusal::Side(side));
         }
-        let rule = Rule::numbered(rule)?;
-        let ink = Dot::new(ink)?;
+        let rule = Rule::try_from(rule)?;
+        let ink = Dot::try_from(ink)?;
         Ok(Pen { ink, side, rule })
     }
 

@@ -1,9 +1,7 @@
 // The rules, each with its meaning and its blank law; a rule by its name is the one that it names.
-ghost use Rattle.std.specs.Prelude.{◌≡◌, ◌<◌, ◌≤◌, MatchResult};
-ghost use Rattle.ink.specs.Meanings.{rule_of};
+ghost use Rattle.ink.specs.Meanings.{MakesRule, rule_of};
 ghost use Rattle.rules.proofs.Inks.{blank_keeps, faded_keeps};
 ghost use Rattle.rules.specs.Dots.{over, erase, faded, laid};
-ghost use Rattle.rules.specs.Pens.{rule_numbered};
 
 use crate::dot::Dot;
 use crate::refusal::PenRefusal;
@@ -52,11 +50,13 @@ impl InkRule for Rule {
     }
 }
 
-impl Rule {
-    // The rule that has a number.
-    pub fn numbered(number: u8) -> Result<Rule, PenRefusal>
-        ensures answer { MatchResult result (λ rule. (rule_of rule ≡ rule_numbered number) × (number ≤ 1)) (λ e. (e ≡ PenRefusal.Rule number) × (1 < number)) }
-    {
+// The rule that has a number.
+impl TryFrom<u8> for Rule {
+    type Error = PenRefusal;
+
+    ghost try_from_gives = { MakesRule };
+
+    fn try_from(number: u8) -> Result<Rule, PenRefusal> {
         match number {
             0 => Ok(Rule::Over),
             1 => Ok(Rule::Erase),
