@@ -1,15 +1,14 @@
-// The calls that the rig plays, and what a store answers to one.
-use block::Refusal;
+// The calls that the rig plays, each as it is printed.
 use std::fmt;
 
 // A block: that of an earlier take, counted from 0, or a bare number.
-#[derive(Clone, Copy)]
+#[derive(Clone, Copy, Debug, PartialEq, Eq)]
 pub enum Block {
-    Taken(usize),
+    Taken(u8),
     Numbered(u32),
 }
 
-#[derive(Clone, Copy)]
+#[derive(Clone, Copy, Debug, PartialEq, Eq)]
 pub enum Call {
     Size,
     Left,
@@ -20,51 +19,36 @@ pub enum Call {
     // so many times, or until the store refuses
     KeepOften(Block, u32),
     Release(Block),
+    // the word at a place
     Get(Block, u32),
+    // at a place, a word
     Put(Block, u32, u32),
     Holders(Block),
 }
 
-// A call as it is printed, and as it is played.
-#[derive(Clone, Copy)]
-pub struct Step {
-    pub text: &'static str,
-    pub call: Call,
-}
-
-#[derive(Clone, Copy)]
-pub enum Answer {
-    Done,
-    Number(u32),
-    // the number that `take` picked: the one answer in which stores may differ
-    Picked(u32),
-    Refused(Refusal),
-    // what was done before the store refused
-    Stopped(u32, Refusal),
-}
-
-impl Answer {
-    // Whether two answers are the same, up to the number that `take` picks.
-    pub fn is_like(self, other: Answer) -> bool {
-        match (self, other) {
-            (Answer::Done, Answer::Done) => true,
-            (Answer::Number(m), Answer::Number(n)) => m == n,
-            (Answer::Picked(_), Answer::Picked(_)) => true,
-            (Answer::Refused(d), Answer::Refused(e)) => d.number() == e.number(),
-            (Answer::Stopped(m, d), Answer::Stopped(n, e)) => m == n && d.number() == e.number(),
-            _ => false,
+// A block that was taken goes by a letter.
+impl fmt::Display for Block {
+    fn fmt<W: fmt::Write>(&self, f: &mut fmt::Formatter<W>) -> fmt::Result {
+        match self {
+            Block::Taken(nth) => f.write_char(char::from(b'a'.saturating_add(*nth))),
+            Block::Numbered(number) => write!(f, "number {number}"),
         }
     }
 }
 
-impl fmt::Display for Answer {
+impl fmt::Display for Call {
     fn fmt<W: fmt::Write>(&self, f: &mut fmt::Formatter<W>) -> fmt::Result {
-        match *self {
-            Answer::Done => write!(f, "done"),
-            Answer::Number(n) => write!(f, "{n}"),
-            Answer::Picked(_) => write!(f, "out"),
-            Answer::Refused(e) => write!(f, "refused {e}"),
-            Answer::Stopped(done, e) => write!(f, "{done} done, then refused {e}"),
+        match self {
+            Call::Size => write!(f, "size"),
+            Call::Left => write!(f, "left"),
+            Call::Take => write!(f, "take"),
+            Call::TakeRest => write!(f, "take until refused"),
+            Call::Keep(b) => write!(f, "keep {b}"),
+            Call::KeepOften(b, times) => write!(f, "keep {b} {times} times"),
+            Call::Release(b) => write!(f, "release {b}"),
+            Call::Get(b, i) => write!(f, "get {b} word {i}"),
+            Call::Put(b, i, w) => write!(f, "put {b} word {i}: {w}"),
+            Call::Holders(b) => write!(f, "holders {b}"),
         }
     }
 }

@@ -1,13 +1,14 @@
 // Plays one list of calls on each of the three stores, and tells what they answered.
 #![tactic(auto)]
 
+mod answers;
 mod calls;
 mod play;
 mod story;
 
+use answers::{Answer, Reply};
 use anyhow::anyhow;
-use block::BlockStore;
-use calls::Answer;
+use calls::Call;
 use chain_store::ChainStore;
 use map_store::MapStore;
 use play::play;
@@ -15,16 +16,19 @@ use ring_store::RingStore;
 use story::STORY;
 
 // One line for a call: what all three answered, and which number each picked.
-fn report(rt: &HostRuntime, text: &str, a: Answer, b: Answer, c: Answer) -> anyhow::Result<()> {
-    let told = a.to_string(rt.alloc())?;
-    if !a.is_like(b) || !a.is_like(c) {
+fn report(rt: &HostRuntime, call: Call, a: Answer, b: Answer, c: Answer) -> anyhow::Result<()> {
+    let asked = call.to_string(rt.alloc())?;
+    let told = match a {
+        Ok(reply) => reply.to_string(rt.alloc())?,
+        Err(stop) => stop.to_string(rt.alloc())?,
+    };
+    if a != b || a != c {
         return Err(anyhow!("the stores do not answer alike"));
     }
-    match (a, b, c) {
-        (Answer::Picked(x), Answer::Picked(y), Answer::Picked(z)) => {
-            println!(rt; "{text:<28}{told:<48}{x:>5}{y:>7}{z:>6}")?;
-        }
-        _ => println!(rt; "{text:<28}{told}")?,
+    if let (Ok(Reply::Picked(x)), Ok(Reply::Picked(y)), Ok(Reply::Picked(z))) = (a, b, c) {
+        println!(rt; "{asked:<28}{told:<48}{x:>5}{y:>7}{z:>6}")?;
+    } else {
+        println!(rt; "{asked:<28}{told}")?;
     }
     Ok(())
 }
@@ -49,10 +53,8 @@ fn run(rt: &HostRuntime) -> anyhow::Result<()> {
     println!(rt;
         "call                        answer                                            map  chain  ring"
     )?;
-    for (i, step) in STORY.iter().enumerate() {
-        if let (Some(a), Some(b), Some(c)) = (map.get(i), chain.get(i), ring.get(i)) {
-            report(rt, step.text, *a, *b, *c)?;
-        }
+    for (((call, a), b), c) in STORY.iter().zip(&map).zip(&chain).zip(&ring) {
+        report(rt, *call, *a, *b, *c)?;
     }
     println!(rt; "All answers agree; only the numbers that take picked differ.")?;
     Ok(())

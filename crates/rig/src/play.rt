@@ -1,23 +1,24 @@
 // Playing calls on any store.
 ghost use Rattle.std.specs.Prelude.{◌≡◌, length, IfOk, vec_len};
 
-use crate::calls::{Answer, Block, Call, Step};
+use crate::answers::{Answer, Reply, Stop};
+use crate::calls::{Block, Call};
 use block::{BlockStore, Refusal};
 use std::alloc::{AllocError, Global};
 
-// Plays the steps in their order on any store: an answer to each.
+// Plays the calls in their order on any store: an answer to each.
 pub fn play<S: BlockStore>(
     heap: Global,
     store: &mut S,
-    steps: &[Step],
+    calls: &[Call],
 ) -> Result<Vec<Answer>, AllocError>
-    ensures { IfOk result (λ v. vec_len v ≡ length steps.now) }
+    ensures { IfOk result (λ v. vec_len v ≡ length calls.now) }
 {
     let mut picks = Vec::new(heap);
     let mut answers = Vec::new(heap);
-    for step in steps {
-        let answer = ask(store, &picks, step.call);
-        if let Answer::Picked(b) = answer {
+    for call in calls {
+        let answer = ask(store, &picks, *call);
+        if let Ok(Reply::Picked(b)) = answer {
             picks.push(b)?;
         }
         answers.push(answer)?;
@@ -25,64 +26,44 @@ pub fn play<S: BlockStore>(
     Ok(answers)
 }
 
-fn ask<S: BlockStore>(store: &mut S, picks: &Vec<u32>, call: Call) -> Answer {
+fn ask<S: BlockStore>(store: &mut S, picks: &[u32], call: Call) -> Answer {
     match call {
-        Call::Size => Answer::Number(store.size()),
-        Call::Left => Answer::Number(store.left()),
-        Call::Take => match store.take() {
-            Ok(b) => Answer::Picked(b),
-            Err(e) => Answer::Refused(e),
-        },
-        Call::TakeRest => take_rest(store),
+        Call::Size => Ok(Reply::Number(store.size())),
+        Call::Left => Ok(Reply::Number(store.left())),
+        Call::Take => Ok(Reply::Picked(store.take()?)),
+        // no store has more than 16,384 blocks, so one take more is refused
+        Call::TakeRest => often(16385, || store.take()),
         Call::Keep(b) => done(store.keep(number(picks, b))),
-        Call::KeepOften(b, times) => keep_often(store, number(picks, b), times),
+        Call::KeepOften(b, times) => {
+            let b = number(picks, b);
+            often(times, || store.keep(b))
+        }
         Call::Release(b) => done(store.release(number(picks, b))),
-        Call::Get(b, i) => told(store.get(number(picks, b), i)),
+        Call::Get(b, i) => Ok(Reply::Number(store.get(number(picks, b), i)?)),
         Call::Put(b, i, w) => done(store.put(number(picks, b), i, w)),
-        Call::Holders(b) => match store.holders(number(picks, b)) {
-            Ok(held) => Answer::Number(u32::from(held)),
-            Err(e) => Answer::Refused(e),
-        },
+        Call::Holders(b) => Ok(Reply::Number(u32::from(store.holders(number(picks, b))?))),
     }
 }
 
 // The number of a block; a take that never came names none of any store.
-fn number(picks: &Vec<u32>, b: Block) -> u32 {
+fn number(picks: &[u32], b: Block) -> u32 {
     match b {
-        Block::Taken(nth) => picks.get(nth).copied().unwrap_or(u32::MAX),
+        Block::Taken(nth) => picks.get(usize::from(nth)).copied().unwrap_or(u32::MAX),
         Block::Numbered(b) => b,
     }
 }
 
 fn done(r: Result<(), Refusal>) -> Answer {
-    match r {
-        Ok(()) => Answer::Done,
-        Err(e) => Answer::Refused(e),
-    }
+    r?;
+    Ok(Reply::Done)
 }
 
-fn told(r: Result<u32, Refusal>) -> Answer {
-    match r {
-        Ok(n) => Answer::Number(n),
-        Err(e) => Answer::Refused(e),
+// One call so many times, or until the store refuses.
+fn often<T: Drop, F: FnMut() -> Result<T, Refusal>>(times: u32, mut call: F) -> Answer
+    requires { F.IsAlwaysCallable call }
+{
+    for done in 0..times {
+        call().map_err(|refusal| Stop::After(done, refusal))?;
     }
-}
-
-// No store has more than 16,384 blocks, so one take more is refused.
-fn take_rest<S: BlockStore>(store: &mut S) -> Answer {
-    for taken in 0..16385 {
-        if let Err(e) = store.take() {
-            return Answer::Stopped(taken, e);
-        }
-    }
-    Answer::Number(16385)
-}
-
-fn keep_often<S: BlockStore>(store: &mut S, b: u32, times: u32) -> Answer {
-    for kept in 0..times {
-        if let Err(e) = store.keep(b) {
-            return Answer::Stopped(kept, e);
-        }
-    }
-    Answer::Number(times)
+    Ok(Reply::Number(times))
 }

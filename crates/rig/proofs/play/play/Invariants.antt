@@ -1,5 +1,5 @@
 use Rattle.std.proofs.Common.{◌≡◌, vec_len}
 use Rattle.rig.proofs.play.play.Given as goal
 
-abbrev pub invariant-loop-step : goal.invariant-loop-step
-invariant-loop-step g l = vec_len l.answers ≡ l.step-index
+abbrev pub invariant-loop-call : goal.invariant-loop-call
+invariant-loop-call g l = vec_len l.answers ≡ l.call-index
