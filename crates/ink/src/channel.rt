@@ -15,5 +15,5 @@ pub fn scale(value: u8, by: u8) -> u8
     ensures value { result ≡ rounded (value * by) }
     ensures within { result ≤ by }
 {
-    round(value as u16 * by as u16) as u8
+    round(u16::from(value) * u16::from(by)) as u8
 }
