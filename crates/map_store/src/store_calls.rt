@@ -44,15 +44,11 @@ impl<'a> BlockStore for MapStore<'a> {
         ensures stays { stands_on self.new.slab ≡ stands_on self.old.slab }
         ensures lowest { IfOk result (λ b. (k : ℕ) → k < b → 0 < (held self.old.slab).holders k) }
     {
-        match self.map.lowest(self.first) {
-            Some(b) => {
-                self.slab.claim(b);
-                self.map.turn(b);
-                self.first = b as usize / 32;
-                Ok(b)
-            }
-            None => Err(Refusal::NoneFree),
-        }
+        let b = self.map.lowest(self.first).ok_or(Refusal::NoneFree)?;
+        self.slab.claim(b);
+        self.map.turn(b);
+        self.first = b as usize / 32;
+        Ok(b)
     }
 
     fn keep(&mut self, b: u32) -> Result<(), Refusal> {

@@ -8,7 +8,7 @@ use Rattle.std.proofs.lemmas.Bool.{cases_lt, cases_eq}
 use Rattle.std.proofs.lemmas.Bool.Decides.{nat_tests}
 use Rattle.std.proofs.lemmas.Nat.Bits.{bit_at-lt, bit_at_ones}
 use Rattle.block.specs.Blocks.{Blocks, sum_to, spare, free_count}
-use Rattle.block.specs.Calls.{taken, released}
+use Rattle.block.specs.Calls.{released}
 use Rattle.block.proofs.Sums.{sum_join, sum_same, sum_zero, sum_suc, sum_count, sum_ones, sum_taken}
 use Rattle.marks.specs.Map.{mark, gone, Marks}
 use Rattle.marks.proofs.Digits.{lowest_zero, sum_bits, turned_same, turned_other}
@@ -108,17 +108,6 @@ ones_told ms m n l h =
       sum_count d (λ j. gone m (m.size + j)) (λ j _. grind (arith, nat_tests)),
       gone_spare m m.size (omega arith),
     )
-
--- a number whose bit is 0 can be taken
-pub unmarked : (ms : List ℕ) (m : Blocks) (k : ℕ) → Marks ms m → k < 16384 → mark ms k ≡ 0 → (k < m.size) × (m.holders k ≡ 0)
-unmarked ms m k h few clear = let e = h k few in (grind (arith, nat_tests), grind (arith, nat_tests))
-
--- the bit of a number that is taken turned
-pub taken_marks : (ms ms' : List ℕ) (m : Blocks) (b : ℕ) → Marks ms m → mark ms b ≡ 0 → mark ms' b ≡ 1 - mark ms b → ((k : ℕ) → k ≢ b → mark ms' k ≡ mark ms k) → Marks ms' (taken m b)
-taken_marks ms ms' m b h free turn others k l = elim (cases_eq k b) [
-  | inl y ↦ ap (mark ms') y ∙ turn ∙ ap (λ (x : ℕ). 1 - x) free ∙ (let z : gone (taken m b) k ≡ 1 = grind (arith, nat_tests) in sym z)
-  | inr d ↦ others k d ∙ h k l ∙ (let z : gone (taken m b) k ≡ gone m k = grind (arith, nat_tests) in sym z)
-]
 
 -- a release that leaves other holders
 pub shared_marks : (ms : List ℕ) (m : Blocks) (b : ℕ) → Marks ms m → 1 < m.holders b → Marks ms (released m b)

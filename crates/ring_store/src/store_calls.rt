@@ -57,14 +57,10 @@ impl BlockStore for RingStore {
         ensures next { IfOk result (λ b. (k : ℕ) → k < 128 → ahead self.old.last k < ahead self.old.last b → 0 < (held self.old).holders k) }
         ensures last { MatchResult result (λ b. self.new.last ≡ b) (λ _. self.new.last ≡ self.old.last) }
     {
-        match self.next() {
-            Some(b) => {
-                Slab::new(&mut self.words, &mut self.cells).claim(b);
-                self.last = b;
-                Ok(b)
-            }
-            None => Err(Refusal::NoneFree),
-        }
+        let b = self.next().ok_or(Refusal::NoneFree)?;
+        Slab::new(&mut self.words, &mut self.cells).claim(b);
+        self.last = b;
+        Ok(b)
     }
 
     fn keep(&mut self, b: u32) -> Result<(), Refusal>
