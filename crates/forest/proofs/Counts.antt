@@ -20,6 +20,11 @@ use Rattle.forest.proofs.Balances.{hit_self, hit_other}
 use Rattle.forest.proofs.Rebuilds.{Part, child_grown, live_child, live_out, true_false, live_down, points_child, points_stay}
 use Rattle.forest.proofs.Reaches.{few_holders}
 
+-- f and g agree below n
+pub any_below : (n : ℕ) (f g : ℕ → Bool) → ((j : ℕ) → j < n → f j ≡ g j) → any_to n f ≡ any_to n g
+any_below zero f g h = refl
+any_below (suc n) f g h = ap (λ t. t || f n) (any_below n f g (λ j l. h j (omega arith))) ∙ ap (λ t. any_to n g || t) (h n (omega arith))
+
 any_same : (n : ℕ) (f g : ℕ → Bool) → ((j : ℕ) → f j ≡ g j) → any_to n f ≡ any_to n g
 any_same n f g h = ap (any_to n) (λ i j. h j i)
 

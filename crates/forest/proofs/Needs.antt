@@ -1,5 +1,7 @@
 -- Counting what a plan changes, stretch by stretch.
-use Rattle.std.proofs.Common.{◌≡◌, ℕ, zero, suc, ◌+◌, ◌-◌, ◌*◌, ◌^◌, ◌<◌, ◌≤◌, Bool, true, false, cond, ◌||◌, ◌≢◌, sym, ap, ◌∙◌, subst, suc-mul, arith}
+use Rattle.std.proofs.Common.{◌≡◌, ℕ, zero, suc, ◌+◌, ◌-◌, ◌*◌, ◌^◌, ◌<◌, ◌≤◌, Bool, true, false, cond, ◌||◌, ◌≢◌, Option, Some, None, MatchOption, is_some, sym, refl, ap, ◌∙◌, subst, suc-mul, arith}
+use Rattle.std.specs.Bool.{then_some}
+use Rattle.std.specs.Option.{unwrap_or}
 use native.Mathlib.Nat.{pow-le-pow_right, one-le-pow}
 use Rattle.std.proofs.lemmas.Bool.{cond-true, cond-false}
 use Rattle.block.specs.Blocks.{Blocks, sum_to}
@@ -23,6 +25,16 @@ needed_most new m (suc k) p a = go (changes new m (suc k) p a) (sum_most 16 (λ 
     go : (t : Bool) → 15 * sum_to 16 (λ j. needed new m k (child m p j) (a * 16 + j)) ≤ 16 * (16 ^ k - 1) → 15 * cond t (suc (sum_to 16 (λ j. needed new m k (child m p j) (a * 16 + j)))) 0 < 16 ^ suc k
     go true parts = omega (arith, power_suc k, one-le-pow k 16 (omega arith))
     go false parts = omega (arith, one-le-pow (suc k) 16 (omega arith))
+
+-- where nothing changes nothing is needed
+needed_none : (new : ℕ → ℕ → ℕ) (m : Blocks) (k p a : ℕ) → changes new m k p a ≡ false → needed new m k p a ≡ 0
+needed_none new m zero p a e = refl
+needed_none new m (suc k) p a e = cond-false (changes new m (suc k) p a) (suc (sum_to 16 (λ j. needed new m k (child m p j) (a * 16 + j)))) 0 e
+
+-- a count r of a stretch tells whether it changes, and how many blocks it needs
+pub count_reads : (new : ℕ → ℕ → ℕ) (m : Blocks) (k p a : ℕ) (r : Option ℕ) → MatchOption r (changes new m k p a ≡ false) (λ b. (changes new m k p a ≡ true) × (b ≡ needed new m k p a)) → (is_some r ≡ changes new m k p a) × (unwrap_or r 0 ≡ needed new m k p a)
+count_reads new m k p a None h = (sym h, sym (needed_none new m k p a h))
+count_reads new m k p a (Some b) h = (sym h.0, h.1)
 
 module _ (new : ℕ → ℕ → ℕ) (m : Blocks) (p a : ℕ) where
   -- the count of the first i stretches, and of one more, fits 32 bits
@@ -57,3 +69,8 @@ module _ (new : ℕ → ℕ → ℕ) (m : Blocks) (p a : ℕ) where
       subst (λ (k : ℕ). (false ≡ changes new m k p a) × (◌≡◌ {A = ℕ} 0 (needed new m k p a))) (up o h)
       (let x₁ = subst (λ (n : ℕ). changed ≡ any_to n (λ j. changes new m (o - 1) (child m p j) (a * 16 + j))) e x in
       (sym t ∙ x₁, sym (cond-false (changes new m (suc (o - 1)) p a) (suc (sum_to 16 (λ j. needed new m (o - 1) (child m p j) (a * 16 + j)))) 0 (sym x₁ ∙ t))))
+
+  -- so the count of the whole
+  pub count_told : (o i blocks : ℕ) (changed : Bool) → o ≢ 0 → i ≡ 16 → changed ≡ any_to i (λ j. changes new m (o - 1) (child m p j) (a * 16 + j)) → blocks ≡ suc (sum_to i (λ j. needed new m (o - 1) (child m p j) (a * 16 + j))) → MatchOption (then_some changed blocks) (changes new m o p a ≡ false) (λ b. (changes new m o p a ≡ true) × (b ≡ needed new m o p a))
+  count_told o i blocks true h e x y = let r = count_all o i blocks true h e x y refl in (sym r.0, r.1)
+  count_told o i blocks false h e x y = sym (count_none o i false h e x refl).0

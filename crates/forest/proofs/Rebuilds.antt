@@ -225,17 +225,14 @@ pub live_here : (new : ℕ → ℕ → ℕ) (m n : Blocks) (o p a : ℕ) (words 
 live_here new m n o p a words fresh changed i w h v f e =
     subst (Live n (o - 1)) (sym e) (live_child n (o - 1) p i (live_grown m n f.grown (suc (o - 1)) p (live_down m o p h v)))
 
-pub part_next : (new : ℕ → ℕ → ℕ) (m n u : Blocks) (o p a : ℕ) (words : List ℕ) (fresh : List Bool) (changed : Bool) (i w q : ℕ) (t : Bool) → o ≢ 0 → Live m o p → length words ≡ 16 → length fresh ≡ 16 → i < 16 → Part new m n (o - 1) p a (λ j. get_or words j 0) (λ j. get_or fresh j false) changed i → w ≡ child n p i → Done new n u (o - 1) w (a * 16 + i) q t → Part new m u (o - 1) p a (λ j. get_or (set words i q) j 0) (λ j. get_or (set fresh i t) j false) (changed || t) (i + 1)
-part_next new m n u o p a words fresh changed i w q t h v lw lf l f e d =
-    let iw : i < length words = omega arith in
-    let jf : i < length fresh = omega arith in
-    let d₁ = subst (λ (x : ℕ). Done new n u (o - 1) x (a * 16 + i) q t) e d in
-    let d₂ = subst (λ (x : ℕ). Done new n u (o - 1) (child n p i) (a * 16 + i) x t) (sym (get_or-set_same words i q 0 iw)) d₁ in
-    let d₃ = subst (λ x. Done new n u (o - 1) (child n p i) (a * 16 + i) (get_or (set words i q) i 0) x) (sym (get_or-set_same fresh i t false jf)) d₂ in
-    part_more new m (o - 1) p a n u (λ j. get_or (set words i q) j 0) (λ j. get_or (set fresh i t) j false) changed (changed || t) i (live_down m o p h v)
-    (part_like new m (o - 1) p a n (λ j. get_or words j 0) (λ j. get_or (set words i q) j 0) (λ j. get_or fresh j false) (λ j. get_or (set fresh i t) j false) changed i
-    (λ j k. get_or-set_other words i j q 0 (omega arith)) (λ j k. get_or-set_other fresh i j t false (omega arith)) f)
-    d₃ (λ z. ((neither changed t z).0, get_or-set_same fresh i t false jf ∙ (neither changed t z).1))
+-- one child more, whose word is q and whose mark is t
+pub part_next : (new : ℕ → ℕ → ℕ) (m n u : Blocks) (o p a : ℕ) (words other : ℕ → ℕ) (fresh marks : ℕ → Bool) (changed : Bool) (i q : ℕ) (t : Bool) → o ≢ 0 → Live m o p → Part new m n (o - 1) p a words fresh changed i → Done new n u (o - 1) (child n p i) (a * 16 + i) q t → ((j : ℕ) → j < i → other j ≡ words j) → other i ≡ q → ((j : ℕ) → j < i → marks j ≡ fresh j) → marks i ≡ t → Part new m u (o - 1) p a other marks (changed || t) (i + 1)
+part_next new m n u o p a words other fresh marks changed i q t h v f d ew eq ef et =
+    let d₁ = subst (λ (x : ℕ). Done new n u (o - 1) (child n p i) (a * 16 + i) x t) (sym eq) d in
+    let d₂ = subst (λ x. Done new n u (o - 1) (child n p i) (a * 16 + i) (other i) x) (sym et) d₁ in
+    part_more new m (o - 1) p a n u other marks changed (changed || t) i (live_down m o p h v)
+    (part_like new m (o - 1) p a n words other fresh marks changed i ew ef f)
+    d₂ (λ z. ((neither changed t z).0, et ∙ (neither changed t z).1))
   where
     neither : (x y : Bool) → (x || y) ≡ false → (x ≡ false) × (y ≡ false)
     neither true y z = absurd (true_false z)

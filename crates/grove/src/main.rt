@@ -8,24 +8,26 @@ use chain_store::ChainStore;
 use map_store::MapStore;
 use ring_store::RingStore;
 use root::Root;
-use snapshots::{NONE, blank, paint, record, see};
+use snapshots::{blank, paint, record, release, see};
 
-// One line: a step, the blocks out and left, and what is read of each snapshot.
+// One line: a step, the blocks out and left, and what is read of each snapshot that there is.
 fn tell<S: BlockStore>(
     rt: &HostRuntime,
     store: &S,
     step: &str,
-    a: Root,
-    b: Root,
-    c: Root,
-    d: Root,
+    snapshots: [Option<Root>; 4],
 ) -> anyhow::Result<()> {
     let left = store.left();
     let out = store.size().saturating_sub(left);
     print!(rt; "  {step:<32}{out:>4}{left:>6}   ")?;
-    for root in [a, b, c, d] {
-        let seen = see(store, root).to_string(rt.alloc())?;
-        print!(rt; "{seen:<17}")?;
+    for snapshot in snapshots {
+        match snapshot {
+            Some(root) => {
+                let seen = see(store, root).to_string(rt.alloc())?;
+                print!(rt; "{seen:<17}")?;
+            }
+            None => print!(rt; "{:<17}", "-")?,
+        }
     }
     println!(rt; "")?;
     Ok(())
@@ -38,21 +40,26 @@ fn grow<S: BlockStore>(rt: &HostRuntime, store: &mut S) -> anyhow::Result<()> {
         "  step", "out", "left", "A", "B", "C", "D"
     )?;
     let a = blank(store);
-    tell(rt, store, "A: a blank sheet", a, NONE, NONE, NONE)?;
+    tell(rt, store, "A: a blank sheet", [a, None, None, None])?;
     let b = paint(store, a, 149);
-    tell(rt, store, "B: A, with dot 149 painted", a, b, NONE, NONE)?;
+    tell(rt, store, "B: A, with dot 149 painted", [a, b, None, None])?;
     let c = record(store, b, 3, 200);
-    tell(rt, store, "C: B, with a record for layer 3", a, b, c, NONE)?;
+    tell(
+        rt,
+        store,
+        "C: B, with a record for layer 3",
+        [a, b, c, None],
+    )?;
     let d = paint(store, c, 165);
-    tell(rt, store, "D: C, with dot 165 painted", a, b, c, d)?;
-    b.release(store);
-    tell(rt, store, "B let go", a, NONE, c, d)?;
-    c.release(store);
-    tell(rt, store, "C let go", a, NONE, NONE, d)?;
-    a.release(store);
-    tell(rt, store, "A let go", NONE, NONE, NONE, d)?;
-    d.release(store);
-    tell(rt, store, "D let go", NONE, NONE, NONE, NONE)
+    tell(rt, store, "D: C, with dot 165 painted", [a, b, c, d])?;
+    release(store, b);
+    tell(rt, store, "B let go", [a, None, c, d])?;
+    release(store, c);
+    tell(rt, store, "C let go", [a, None, None, d])?;
+    release(store, a);
+    tell(rt, store, "A let go", [None, None, None, d])?;
+    release(store, d);
+    tell(rt, store, "D let go", [None, None, None, None])
 }
 
 fn run(rt: &HostRuntime) -> anyhow::Result<()> {

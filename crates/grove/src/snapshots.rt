@@ -2,78 +2,80 @@
 use block::BlockStore;
 use ink::{Channels, Dot};
 use kinds::{Dots, LayerRecords};
-use root::{Part, Root};
+use root::{Layer, Part, Root};
 use std::fmt;
 use tree::{CellKind, OneCell};
 
-// No snapshot.
-pub const NONE: Root = Root { word: 0 };
+// The dots that the program paints are those of the lowest layer.
+const PAINTED: Part = Part::Dots(Layer { number: 0 });
 
-// What is read of a snapshot: alpha of its dots 149 and 165, and the opacity of its layer 3.
+// What is read of a snapshot: alpha of its dots 149 and 165, and the opacity of its layer 3, where it has one.
 #[derive(Clone, Copy)]
-pub enum Seen {
-    // there is no such snapshot
-    Gone,
-    // it has no layer 3
-    Bare(u8, u8),
-    Layered(u8, u8, u8),
+pub struct Seen {
+    first: u8,
+    second: u8,
+    opacity: Option<u8>,
 }
 
 impl fmt::Display for Seen {
     fn fmt<W: fmt::Write>(&self, f: &mut fmt::Formatter<W>) -> fmt::Result {
-        match *self {
-            Seen::Gone => write!(f, "-"),
-            Seen::Bare(first, second) => write!(f, "{first}, {second}, none"),
-            Seen::Layered(first, second, opacity) => write!(f, "{first}, {second}, {opacity}"),
+        let first = self.first;
+        let second = self.second;
+        match self.opacity {
+            Some(opacity) => write!(f, "{first}, {second}, {opacity}"),
+            None => write!(f, "{first}, {second}, none"),
         }
     }
 }
 
 fn alpha<S: BlockStore>(store: &S, root: Root, index: u32) -> u8 {
-    let dots = root.tree(store, Part { number: 0 });
+    let dots = root.tree(store, PAINTED);
     Channels::from(dots.read::<S, Dots>(store, index)).alpha
 }
 
-fn layer<S: BlockStore>(store: &S, root: Root, index: u32) -> Option<u8> {
-    let records = root.tree(store, Part { number: 9 });
+fn opacity<S: BlockStore>(store: &S, root: Root, index: u32) -> Option<u8> {
+    let records = root.tree(store, Part::Records);
     records.read::<S, LayerRecords>(store, index)
 }
 
 pub fn see<S: BlockStore>(store: &S, root: Root) -> Seen {
-    if root.word == 0 {
-        return Seen::Gone;
-    }
-    let first = alpha(store, root, 149);
-    let second = alpha(store, root, 165);
-    match layer(store, root, 3) {
-        None => Seen::Bare(first, second),
-        Some(opacity) => Seen::Layered(first, second, opacity),
+    Seen {
+        first: alpha(store, root, 149),
+        second: alpha(store, root, 165),
+        opacity: opacity(store, root, 3),
     }
 }
 
 // A blank sheet, or none where no block is left.
-pub fn blank<S: BlockStore>(store: &mut S) -> Root {
-    match Root::blank(store) {
-        Ok(root) => root,
-        Err(_) => NONE,
-    }
-}
-
-fn edit<S: BlockStore>(store: &mut S, root: Root, part: Part, plan: OneCell) -> Root {
-    match root.edit(store, part, &plan) {
-        Ok(Some(new)) => new,
-        _ => NONE,
-    }
+pub fn blank<S: BlockStore>(store: &mut S) -> Option<Root> {
+    Root::blank(store).ok()
 }
 
 // The snapshot with a dot painted black, or none where the blocks do not suffice.
-pub fn paint<S: BlockStore>(store: &mut S, root: Root, index: u32) -> Root {
+pub fn paint<S: BlockStore>(store: &mut S, root: Option<Root>, index: u32) -> Option<Root> {
     let word = Dots::pack(Dot::black());
-    edit(store, root, Part { number: 0 }, OneCell { index, word })
+    root?
+        .edit(store, PAINTED, &OneCell { index, word })
+        .ok()
+        .flatten()
 }
 
 // The snapshot with a record for a layer.
-pub fn record<S: BlockStore>(store: &mut S, root: Root, index: u32, opacity: u8) -> Root {
+pub fn record<S: BlockStore>(
+    store: &mut S,
+    root: Option<Root>,
+    index: u32,
+    opacity: u8,
+) -> Option<Root> {
     let word = LayerRecords::pack(Some(opacity));
-    edit(store, root, Part { number: 9 }, OneCell { index, word })
+    root?
+        .edit(store, Part::Records, &OneCell { index, word })
+        .ok()
+        .flatten()
+}
+
+pub fn release<S: BlockStore>(store: &mut S, root: Option<Root>) {
+    if let Some(root) = root {
+        root.release(store);
+    }
 }

@@ -1,19 +1,29 @@
 -- The words of a root block.
-use Rattle.std.proofs.Common.{◌≡◌, ℕ, zero, suc, ◌+◌, ◌-◌, ◌<◌, ◌≤◌, Bool, true, false, ◌≢◌, List, length, get_or, set, replicate, sym, refl, ap, ◌∙◌, subst, arith}
+use Rattle.std.proofs.Common.{◌≡◌, ℕ, zero, suc, ◌+◌, ◌-◌, ◌<◌, ◌≤◌, true, false, ◌≢◌, List, [], ◌∷◌, map, length, get_or, set, sym, refl, ap, ◌∙◌, subst, arith}
 use mathlib.Core.Path.{fun_ext}
 use native.Mathlib.Decide.{ℕ_discrete, dec_lt}
-use Rattle.std.proofs.lemmas.List.FromFn.{get_or-map-range_with_len, length-map-range_with_len}
-use Rattle.std.proofs.lemmas.List.{get_or-set_same, get_or-set_other, get_or_past}
+use denote.Param.Members.{Mut, Called}
+use Rattle.std.specs.Array.{IsMapOf}
+use Rattle.std.specs.List.{range_with_len}
+use Rattle.std.proofs.lemmas.List.FromFn.{get_or-map-range_with_len, length-map-range_with_len, get_or-range_with_len}
+use Rattle.std.proofs.lemmas.List.{get_or-map, get_or_past, length-map}
 use Rattle.block.specs.Blocks.{Blocks, Whole}
 use Rattle.block.specs.Calls.{released}
 use Rattle.block.specs.declared.refusals.Refusal.{Refusal}
 use Rattle.forest.specs.Trees.{child, words, let_go}
 use Rattle.forest.specs.Fills.{Blocked, Filled}
-use Rattle.forest.proofs.Rebuilds.{none_marked}
 use Rattle.forest.proofs.Releases.{released_flat}
+use Rattle.node.specs.declared.children.Child.{Child}
+use Rattle.node.specs.declared.children.Child.TheVariants.{Kept, Fresh}
+use Rattle.node.specs.Children.{word_at, fresh_at}
+use Rattle.node.proofs.Arrays.{mapped_by}
+use Rattle.node.proofs.Slots.{word_here, word_else, fresh_here, fresh_else}
 use Rattle.count.specs.Steps.{put, gone}
 use Rattle.count.proofs.Keeps.{put_here, put_else}
 use Rattle.rules.specs.Cells.{depth}
+use Rattle.root.specs.declared.parts.Part.{Part}
+use Rattle.root.specs.declared.parts.Part.TheVariants.{Dots, Strips, Records}
+use Rattle.root.specs.Parts.{slot}
 use Rattle.root.specs.Sheets.{all_gone}
 
 pub words_at : (m : Blocks) (p i : ℕ) → i < 16 → get_or (words m p) i 0 ≡ child m p i
@@ -28,26 +38,45 @@ child_wide : (m : Blocks) → Whole m → (p i : ℕ) → 16 ≤ i → child m p
 child_wide m w zero i l = refl
 child_wide m w (suc b) i l = w.wide b i l
 
-new_words : (m : Blocks) → Whole m → (p t q : ℕ) (ws : List ℕ) → ws ≡ words m p → t < 16 → (λ (j : ℕ). get_or (set ws t q) j 0) ≡ put t q (child m p)
-new_words m w p t q ws e l = fun_ext (λ j. ap (λ (v : List ℕ). get_or (set v t q) j 0) e ∙ elim (ℕ_discrete j t) [
-  | yes y ↦ ap (λ (v : ℕ). get_or (set (words m p) t q) v 0) y ∙ get_or-set_same (words m p) t q 0 (omega (arith, length_words m p)) ∙ sym (put_here t q (child m p) j y)
-  | no y ↦ get_or-set_other (words m p) t j q 0 y ∙ elim (dec_lt j 16) [
-    | yes h ↦ words_at m p j h
-    | no h ↦ get_or_past (words m p) j 0 (omega (arith, length_words m p)) ∙ sym (child_wide m w p j (omega arith))
-  ] ∙ sym (put_else t q (child m p) j y)
-])
+kept_words : (ws : List ℕ) (j : ℕ) → word_at (map Kept ws) j ≡ get_or ws j 0
+kept_words [] j = refl
+kept_words (w ∷ ws) zero = refl
+kept_words (w ∷ ws) (suc j) = kept_words ws j
 
-new_marks : (t : ℕ) (f : Bool) → t < 16 → (λ (j : ℕ). get_or (set (replicate 16 false) t f) j false) ≡ put t f (λ _. false)
-new_marks t f l = fun_ext (λ j. elim (ℕ_discrete j t) [
-  | yes y ↦ ap (λ (v : ℕ). get_or (set (replicate 16 false) t f) v false) y ∙ get_or-set_same (replicate 16 false) t f false l ∙ sym (put_here t f (λ _. false) j y)
-  | no y ↦ get_or-set_other (replicate 16 false) t j f false y ∙ none_marked 16 j ∙ sym (put_else t f (λ _. false) j y)
-])
+-- the children of a block are its words, all kept, where the closure makes that of each
+pub kept_all : {F : Type 0} (g : Mut F (ℕ × Unit {0}) Child) (f : F) (m : Blocks) (p : ℕ) (ws : List ℕ) (cs : List Child) → ((x : ℕ) (y : Child) (q : F) → Called g f (x, tt) y q → (q ≡ f) × (y ≡ Kept x)) → ws ≡ words m p → IsMapOf g f ws cs 16 → cs ≡ map Kept (words m p)
+kept_all g f m p ws cs call e r = mapped_by g f Kept ws cs 0 (Kept 0) call 16 (ap length e ∙ length_words m p) r ∙ ap (map Kept) e
 
-pub root_filled : (m o : Blocks) (p t q b : ℕ) (ws : List ℕ) → Whole m → ws ≡ words m p → t < 16 → Filled m o 1 b (λ j. get_or (set ws t q) j 0) (λ j. get_or (set (replicate 16 false) t true) j false) → Filled m o 1 b (put t q (child m p)) (put t true (λ _. false))
-root_filled m o p t q b ws w e l f = subst (Filled m o 1 b (put t q (child m p))) (new_marks t true l) (subst (λ (v : ℕ → ℕ). Filled m o 1 b v (λ j. get_or (set (replicate 16 false) t true) j false)) (new_words m w p t q ws e l) f)
+none_fresh : (ws : List ℕ) (j : ℕ) → fresh_at (map Kept ws) j ≡ false
+none_fresh [] j = refl
+none_fresh (w ∷ ws) zero = refl
+none_fresh (w ∷ ws) (suc j) = none_fresh ws j
 
-pub root_blocked : (m : Blocks) (p t q : ℕ) (ws : List ℕ) (e : Refusal) → Whole m → ws ≡ words m p → t < 16 → Blocked e 1 (λ j. get_or (set ws t q) j 0) m → Blocked e 1 (put t q (child m p)) m
-root_blocked m p t q ws e w x l b = subst (λ (v : ℕ → ℕ). Blocked e 1 v m) (new_words m w p t q ws x l) b
+-- the children cs of a new root block are the old ones, but at t a fresh one with the word q
+module _ (m : Blocks) (p t q : ℕ) (cs : List Child) (whole : Whole m) (old : cs ≡ map Kept (words m p)) (l : t < 16) where
+  long : t < length cs
+  long = omega (arith, ap length old ∙ length-map (words m p) Kept ∙ length_words m p)
+
+  new_words : word_at (set cs t (Fresh q)) ≡ put t q (child m p)
+  new_words = fun_ext (λ j. elim (ℕ_discrete j t) [
+    | yes y ↦ ap (word_at (set cs t (Fresh q))) y ∙ word_here cs t (Fresh q) long ∙ sym (put_here t q (child m p) j y)
+    | no y ↦ word_else cs t (Fresh q) j y ∙ ap (λ (v : List Child). word_at v j) old ∙ kept_words (words m p) j ∙ elim (dec_lt j 16) [
+      | yes h ↦ words_at m p j h
+      | no h ↦ get_or_past (words m p) j 0 (omega (arith, length_words m p)) ∙ sym (child_wide m whole p j (omega arith))
+    ] ∙ sym (put_else t q (child m p) j y)
+  ])
+
+  new_marks : fresh_at (set cs t (Fresh q)) ≡ put t true (λ _. false)
+  new_marks = fun_ext (λ j. elim (ℕ_discrete j t) [
+    | yes y ↦ ap (fresh_at (set cs t (Fresh q))) y ∙ fresh_here cs t (Fresh q) long ∙ sym (put_here t true (λ _. false) j y)
+    | no y ↦ fresh_else cs t (Fresh q) j y ∙ ap (λ (v : List Child). fresh_at v j) old ∙ none_fresh (words m p) j ∙ sym (put_else t true (λ _. false) j y)
+  ])
+
+  pub root_filled : (o : Blocks) (b : ℕ) → Filled m o 1 b (word_at (set cs t (Fresh q))) (fresh_at (set cs t (Fresh q))) → Filled m o 1 b (put t q (child m p)) (put t true (λ _. false))
+  root_filled o b f = subst (Filled m o 1 b (put t q (child m p))) new_marks (subst (λ (v : ℕ → ℕ). Filled m o 1 b v (fresh_at (set cs t (Fresh q)))) new_words f)
+
+  pub root_blocked : (e : Refusal) → Blocked e 1 (word_at (set cs t (Fresh q))) m → Blocked e 1 (put t q (child m p)) m
+  root_blocked e b = subst (λ (v : ℕ → ℕ). Blocked e 1 v m) new_words b
 
 -- the first i trees of a list are let go
 abbrev pub freed : (ℕ → ℕ) → Blocks → List ℕ → ℕ → Blocks
@@ -75,3 +104,14 @@ freed_all m n o zero i ws h e ew en eo = absurd (h refl)
 freed_all m n o (suc b) i ws h e ew en eo =
     let z : suc b - 1 ≡ b = omega arith in
     eo ∙ ap (freed depth n ws) e ∙ ap (λ (v : List ℕ). freed depth n v 10) ew ∙ ap (λ (v : Blocks). freed depth v (words m (suc b)) 10) (en ∙ ap (released m) z) ∙ freed_gone depth m b 10 (omega arith) ∙ ten m b
+
+pub slot_low : (p : Part) → slot p < 10
+slot_low (Dots layer) = let h = layer.eight in omega arith
+slot_low Strips = omega arith
+slot_low Records = omega arith
+
+-- of all ten in the order of their slots
+pub slot_at : (ps : List Part) (i : ℕ) (d : Part) → map slot ps ≡ range_with_len 0 10 → i < 10 → slot (get_or ps i d) ≡ i
+slot_at ps i d all l =
+    let h : i < length ps = omega (arith, sym (length-map ps slot) ∙ ap length all) in
+    sym (get_or-map slot ps i d 0 h) ∙ ap (λ (v : List ℕ). get_or v i 0) all ∙ get_or-range_with_len 0 10 i 0 l ∙ omega arith

@@ -3,73 +3,47 @@ ghost use Rattle.std.specs.Prelude.{◌≡◌, true, false, MatchOption, MatchRe
 ghost use Rattle.forest.specs.Frames.{Live};
 ghost use Rattle.forest.specs.Rebuilds.{Counted, Done, Undone, Why};
 ghost use Rattle.forest.specs.Promises.{Rebuilt, Refused};
+ghost use Rattle.node.specs.Children.{is_fresh, word_of};
 
+use crate::branches::Branch;
 use crate::plans::Plan;
-use crate::trees::{Stretch, Tree};
+use crate::trees::Tree;
 use block::{BlockStore, Refusal};
+use node::Child;
 
-// A stretch after a rebuild: its word, and whether that is a new one.
-#[derive(Clone, Copy)]
-struct Built {
-    word: u32,
-    fresh: bool,
-}
-
-// The stretch with each cell's new word. Where none changes it is the old one; what was begun is let go again on a refusal.
-fn build<S: BlockStore, P: Plan>(
-    store: &mut S,
-    plan: &P,
-    stretch: Stretch,
-    word: u32,
-) -> Result<Built, Refusal>
-    ensures { MatchResult result (λ x. (Live (S.BlockStore.blocks store.old) stretch.order word → Done (P.Plan.new plan.now) (S.BlockStore.blocks store.old) (S.BlockStore.blocks store.new) stretch.order word stretch.at x.word x.fresh × Counted (P.Plan.new plan.now) (S.BlockStore.blocks store.old) (S.BlockStore.blocks store.new) stretch.order word stretch.at x.word x.fresh)) (λ e. (Live (S.BlockStore.blocks store.old) stretch.order word → Undone (S.BlockStore.blocks store.old) (S.BlockStore.blocks store.new) stretch.order word stretch.at × Why e (P.Plan.new plan.now) (S.BlockStore.blocks store.old) stretch.order word stretch.at)) }
+// The branch with each cell's new word. Where none changes it is the old one; what was begun is let go again on a refusal.
+fn build<S: BlockStore, P: Plan>(store: &mut S, plan: &P, branch: Branch) -> Result<Child, Refusal>
+    ensures { MatchResult result (λ x. (Live (S.BlockStore.blocks store.old) branch.stretch.order branch.word → Done (P.Plan.new plan.now) (S.BlockStore.blocks store.old) (S.BlockStore.blocks store.new) branch.stretch.order branch.word branch.stretch.at (word_of x) (is_fresh x) × Counted (P.Plan.new plan.now) (S.BlockStore.blocks store.old) (S.BlockStore.blocks store.new) branch.stretch.order branch.word branch.stretch.at (word_of x) (is_fresh x))) (λ e. (Live (S.BlockStore.blocks store.old) branch.stretch.order branch.word → Undone (S.BlockStore.blocks store.old) (S.BlockStore.blocks store.new) branch.stretch.order branch.word branch.stretch.at × Why e (P.Plan.new plan.now) (S.BlockStore.blocks store.old) branch.stretch.order branch.word branch.stretch.at)) }
 {
-    if !plan.touches(stretch) {
-        return Ok(Built { word, fresh: false });
+    if !plan.touches(branch.stretch) {
+        return Ok(Child::Kept(branch.word));
     }
-    if stretch.order == 0 {
-        let new = plan.new_word(stretch.at, word);
-        return Ok(Built {
-            word: new,
-            fresh: new != word,
+    if branch.stretch.order == 0 {
+        let new = plan.new_word(branch.stretch.at, branch.word);
+        return Ok(if new == branch.word {
+            Child::Kept(new)
+        } else {
+            Child::Fresh(new)
         });
     }
-    let order = stretch.order - 1;
-    let mut words = [0; 16];
-    let mut fresh = [false; 16];
-    let mut changed = false;
-    for i in 0..16 {
-        let old = node::child_of(store, word, i as u32);
-        match build(
-            store,
-            plan,
-            Stretch {
-                order,
-                at: stretch.at * 16 + i as u32,
-            },
-            old,
-        ) {
-            Ok(built) => {
-                words[i] = built.word;
-                fresh[i] = built.fresh;
-                changed = changed | built.fresh;
-            }
+    let order = branch.stretch.order - 1;
+    let mut children = [Child::Kept(0); 16];
+    for (i, child) in children.iter_mut().enumerate() {
+        match build(store, plan, branch.part(store, i as u32)) {
+            Ok(built) => *child = built,
             Err(e) => {
-                node::drop_fresh(store, order, &words, &fresh);
+                node::drop_fresh(store, order, &children);
                 return Err(e);
             }
         }
     }
-    if !changed {
-        return Ok(Built { word, fresh: false });
+    if !node::any_fresh(&children) {
+        return Ok(Child::Kept(branch.word));
     }
-    match node::fill(store, order, &words, &fresh) {
-        Ok(new) => Ok(Built {
-            word: new,
-            fresh: true,
-        }),
+    match node::fill(store, order, &children) {
+        Ok(new) => Ok(Child::Fresh(new)),
         Err(e) => {
-            node::drop_fresh(store, order, &words, &fresh);
+            node::drop_fresh(store, order, &children);
             Err(e)
         }
     }
@@ -85,22 +59,12 @@ impl Tree {
     ) -> Result<Option<Tree>, Refusal>
         ensures { MatchResult result (λ new. MatchOption new (Live (S.BlockStore.blocks store.old) self.depth self.top → Rebuilt (P.Plan.new plan.now) (S.BlockStore.blocks store.old) (S.BlockStore.blocks store.new) self.depth self.top self.top false) (λ t. (t.depth ≡ self.depth) × (Live (S.BlockStore.blocks store.old) self.depth self.top → Rebuilt (P.Plan.new plan.now) (S.BlockStore.blocks store.old) (S.BlockStore.blocks store.new) self.depth self.top t.top true))) (λ e. (Live (S.BlockStore.blocks store.old) self.depth self.top → Refused (P.Plan.new plan.now) (S.BlockStore.blocks store.old) (S.BlockStore.blocks store.new) self.depth self.top e)) }
     {
-        let built = build(
-            store,
-            plan,
-            Stretch {
-                order: self.depth,
-                at: 0,
-            },
-            self.top,
-        )?;
-        if built.fresh {
-            Ok(Some(Tree {
+        match build(store, plan, self.trunk())? {
+            Child::Kept(_) => Ok(None),
+            Child::Fresh(top) => Ok(Some(Tree {
                 depth: self.depth,
-                top: built.word,
-            }))
-        } else {
-            Ok(None)
+                top,
+            })),
         }
     }
 }

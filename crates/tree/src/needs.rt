@@ -1,54 +1,31 @@
 // How many blocks a rebuild takes, counted before anything is altered.
-ghost use Rattle.std.specs.Prelude.{◌≡◌, ◌≤◌};
+ghost use Rattle.std.specs.Prelude.{◌≡◌, true, false, MatchOption};
 ghost use Rattle.forest.specs.Plans.{changes, needed};
 
+use crate::branches::Branch;
 use crate::plans::Plan;
-use crate::trees::{Stretch, Tree};
+use crate::trees::Tree;
 use block::BlockStore;
 
-// What a plan would change in a stretch.
-#[derive(Clone, Copy)]
-struct Cost {
-    // whether a cell of it changes
-    changed: bool,
-    // how many stretches in it, of order 1 and above and itself included, hold a changed cell
-    blocks: u32,
-}
-
-const NOTHING: Cost = Cost {
-    changed: false,
-    blocks: 0,
-};
-
-fn count<S: BlockStore, P: Plan>(store: &S, plan: &P, stretch: Stretch, word: u32) -> Cost
-    ensures changed { result.changed ≡ changes (P.Plan.new plan.now) (S.BlockStore.blocks store.now) stretch.order word stretch.at }
-    ensures blocks { result.blocks ≡ needed (P.Plan.new plan.now) (S.BlockStore.blocks store.now) stretch.order word stretch.at }
+// How many stretches of the branch, of order 1 and above and itself included, hold a cell that the plan changes; none where no cell of it changes.
+fn count<S: BlockStore, P: Plan>(store: &S, plan: &P, branch: Branch) -> Option<u32>
+    ensures { MatchOption result (changes (P.Plan.new plan.now) (S.BlockStore.blocks store.now) branch.stretch.order branch.word branch.stretch.at ≡ false) (λ blocks. (changes (P.Plan.new plan.now) (S.BlockStore.blocks store.now) branch.stretch.order branch.word branch.stretch.at ≡ true) × (blocks ≡ needed (P.Plan.new plan.now) (S.BlockStore.blocks store.now) branch.stretch.order branch.word branch.stretch.at)) }
 {
-    if !plan.touches(stretch) {
-        return NOTHING;
+    if !plan.touches(branch.stretch) {
+        return None;
     }
-    if stretch.order == 0 {
-        return Cost {
-            changed: plan.new_word(stretch.at, word) != word,
-            blocks: 0,
-        };
+    if branch.stretch.order == 0 {
+        let new = plan.new_word(branch.stretch.at, branch.word);
+        return (new != branch.word).then_some(0);
     }
     let mut changed = false;
     let mut blocks = 1;
     for i in 0..16 {
-        let part = Stretch {
-            order: stretch.order - 1,
-            at: stretch.at * 16 + i,
-        };
-        let of_part = count(store, plan, part, node::child_of(store, word, i));
-        changed = changed | of_part.changed;
-        blocks = blocks + of_part.blocks;
+        let of_part = count(store, plan, branch.part(store, i));
+        changed |= of_part.is_some();
+        blocks += of_part.unwrap_or(0);
     }
-    if changed {
-        Cost { changed, blocks }
-    } else {
-        NOTHING
-    }
+    changed.then_some(blocks)
 }
 
 impl Tree {
@@ -56,15 +33,6 @@ impl Tree {
     pub fn need<S: BlockStore, P: Plan>(self, store: &S, plan: &P) -> u32
         ensures { result ≡ needed (P.Plan.new plan.now) (S.BlockStore.blocks store.now) self.depth self.top 0 }
     {
-        count(
-            store,
-            plan,
-            Stretch {
-                order: self.depth,
-                at: 0,
-            },
-            self.top,
-        )
-        .blocks
+        count(store, plan, self.trunk()).unwrap_or(0)
     }
 }

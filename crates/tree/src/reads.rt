@@ -1,29 +1,21 @@
 // Reading trees: it alters nothing, and answers for any word at all.
-ghost use Rattle.std.specs.Prelude.{◌≡◌, ◌≤◌};
+ghost use Rattle.std.specs.Prelude.{◌≡◌};
 ghost use Rattle.forest.specs.Trees.{lookup};
 
 use crate::cells::CellKind;
 use crate::trees::Tree;
 use block::BlockStore;
 
-// The word of the cell at an index.
-fn look_up<S: BlockStore>(store: &S, order: u8, word: u32, index: u32) -> u32
-    requires { order ≤ 4 }
-    ensures { result ≡ lookup (S.BlockStore.blocks store.now) order word index }
-{
-    if order == 0 {
-        return word;
-    }
-    let child = node::child_of(store, word, (index >> (4 * (order - 1) as u32)) % 16);
-    look_up(store, order - 1, child, index)
-}
-
 impl Tree {
     // The word of the cell at an index, counted round past the last.
     pub fn word_at<S: BlockStore>(self, store: &S, index: u32) -> u32
         ensures { result ≡ lookup (S.BlockStore.blocks store.now) self.depth self.top index }
     {
-        look_up(store, self.depth, self.top, index)
+        let mut word = self.top;
+        for order in (0..self.depth).rev() {
+            word = node::child_of(store, word, (index >> (4 * order as u32)) % 16);
+        }
+        word
     }
 
     // The cell at an index.

@@ -1,11 +1,6 @@
 -- A walk goes stretch by stretch, and passes over what is blank or outside the region.
-use mathlib.Core.Path.{◌≡◌, refl, sym, ap, subst, ◌∙◌}
-use mathlib.Core.Logic.{◌≢◌}
-use mathlib.Core.Bool.{Bool, true, false, cond}
-use mathlib.Core.List.{List, [], ◌∷◌}
-use Prim.Native.Nat.{ℕ, suc, ◌+◌, ◌-◌, ◌*◌, ◌/◌, ◌%◌, ◌^◌, ◌<◌, ◌≤◌}
-use native.Mathlib.Omega.{arith}
-use native.Mathlib.Nat.{mul_assoc, add-mul, suc-mul, div-eq_of_lt-le}
+use Rattle.std.proofs.Common.{◌≡◌, ℕ, suc, ◌+◌, ◌-◌, ◌*◌, ◌/◌, ◌%◌, ◌^◌, ◌<◌, ◌≤◌, Bool, true, false, cond, ◌≢◌, List, [], ◌∷◌, refl, sym, ap, subst, ◌∙◌, suc-mul, arith}
+use Rattle.std.proofs.Math.Nat.{mul_assoc, add-mul, div-eq_of_lt-le}
 use Rattle.block.specs.Blocks.{Blocks}
 use Rattle.forest.specs.Trees.{child, look, digits, lookup}
 use Rattle.forest.proofs.Digits.{power_suc}

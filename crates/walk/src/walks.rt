@@ -6,35 +6,30 @@ ghost use Rattle.walk.specs.Walks.{over, visit};
 use crate::regions::Region;
 use crate::visitors::Visitor;
 use block::BlockStore;
-use tree::{Stretch, Tree};
+use tree::{Branch, Tree};
 
-fn walk_stretch<S: BlockStore, R: Region, V: Visitor>(
+fn walk_branch<S: BlockStore, R: Region, V: Visitor>(
     store: &S,
     region: &R,
     visitor: &mut V,
-    stretch: Stretch,
-    word: u32,
+    branch: Branch,
 )
-    ensures { visitor.new ≡ over (visit (R.Region.has region.now) V.Visitor.step (lookup (S.BlockStore.blocks store.now) stretch.order word)) (stretch.at * 16 ^ stretch.order) (16 ^ stretch.order) visitor.old }
+    ensures { visitor.new ≡ over (visit (R.Region.has region.now) V.Visitor.step (lookup (S.BlockStore.blocks store.now) branch.stretch.order branch.word)) (branch.stretch.at * 16 ^ branch.stretch.order) (16 ^ branch.stretch.order) visitor.old }
 {
-    if word == 0 {
+    if branch.word == 0 {
         return;
     }
-    if !region.meets(stretch) {
+    if !region.meets(branch.stretch) {
         return;
     }
-    if stretch.order == 0 {
-        if region.has(stretch.at) {
-            visitor.visit(stretch.at, word);
+    if branch.stretch.order == 0 {
+        if region.has(branch.stretch.at) {
+            visitor.visit(branch.stretch.at, branch.word);
         }
         return;
     }
     for i in 0..16 {
-        let part = Stretch {
-            order: stretch.order - 1,
-            at: stretch.at * 16 + i,
-        };
-        walk_stretch(store, region, visitor, part, node::child_of(store, word, i));
+        walk_branch(store, region, visitor, branch.part(store, i));
     }
 }
 
@@ -47,14 +42,5 @@ pub fn walk<S: BlockStore, R: Region, V: Visitor>(
 )
     ensures { visitor.new ≡ over (visit (R.Region.has region.now) V.Visitor.step (lookup (S.BlockStore.blocks store.now) tree.depth tree.top)) 0 (16 ^ tree.depth) visitor.old }
 {
-    walk_stretch(
-        store,
-        region,
-        visitor,
-        Stretch {
-            order: tree.depth,
-            at: 0,
-        },
-        tree.top,
-    )
+    walk_branch(store, region, visitor, tree.trunk())
 }

@@ -1,4 +1,4 @@
-use Rattle.std.proofs.Common.{◌≡◌, ◌+◌, ◌-◌, drop, fold, sym, refl, ap, ◌∙◌, ⊎_elim, arith}
+use Rattle.std.proofs.Common.{◌≡◌, ◌+◌, ◌-◌, drop, fold, sym, refl, ap, ◌∙◌, arith}
 use Rattle.std.proofs.lemmas.List.{at_drop_more, at_drop_all}
 use Rattle.std.proofs.lemmas.Bool.{eqb-true, eqb-false}
 use Rattle.block.specs.Blocks.{Blocks}
@@ -9,12 +9,10 @@ use Rattle.node.proofs.releases.+let_go.Goals as goal
 use Rattle.node.proofs.releases.+let_go.Goals.{else-order-gt1-via-then-order-gt1+else-held_once, else-order-gt1-via-else-order-gt1}
 
 pub returns-then-order-eq0 : goal.returns-then-order-eq0
-returns-then-order-eq0 g t c =
-    let m = g.S.BlockStore.blocks c.args.store.now in
-    ⊎_elim (λ e. rw e (sym (released_flat m c.args.word))) (λ e. rw e.1 (sym (released_null c.args.order m))) c.then-order-eq0.either
+returns-then-order-eq0 g t c = rw c.if-order-eq0.true (sym (released_flat _ c.args.word))
 
-pub loop-child-init : goal.loop-child-init
-loop-child-init g t c = refl
+pub returns-in_default : goal.returns-in_default
+returns-in_default g t c = let e : c.args.word ≡ 0 = omega (arith, c.in_default.ensures) in rw e (sym (released_null c.args.order _))
 
 pub loop-child-preserved : goal.loop-child-preserved
 loop-child-preserved g t c =
@@ -30,17 +28,19 @@ returns-after-loop-child g t c =
     let ws = c.words_of-children.result in
     let m = g.S.BlockStore.blocks c.args.store.now in
     let e = at_drop_all (fold (let_go k) (g.S.BlockStore.blocks c.loop-child.store)) ws c.loop-child.child-index (omega arith) in
-    let r = released_anyway m _ (c.args.word - 1) c.release.result (g.S.BlockStore.whole c.args.store.now) c.release.ensures.answer c.release.ensures.after in
+    let d : c.in-Some.b ≡ c.args.word - 1 = omega (arith, c.in-Some.ensures) in
+    let r = released_anyway m _ c.in-Some.b c.release.result (g.S.BlockStore.whole c.args.store.now) c.release.ensures.answer c.release.ensures.after ∙ ap (released m) d in
     let a = ap (λ (n : Blocks). fold (let_go k) n ws) r in
     let b = ap (fold (let_go k) (released m (c.args.word - 1))) c.words_of-children.ensures in
-    let o = eqb-true _ _ (sym c.held_once.ensures ∙ c.if-held_once.true) in
-    sym e ∙ c.loop-child.invariant ∙ a ∙ b ∙ sym (released_last c.args.order c.args.word m (omega arith) (omega arith) o)
+    let o = sym (ap m.holders d) ∙ eqb-true _ _ (sym c.held_once.ensures ∙ c.if-held_once.true) in
+    sym e ∙ c.loop-child.invariant ∙ a ∙ b ∙ sym (released_last c.args.order c.args.word m (omega arith) (omega (arith, c.in-Some.ensures)) o)
 
 pub returns-else-order-gt1 : goal.returns-else-order-gt1
 returns-else-order-gt1 g t c =
     let m = g.S.BlockStore.blocks c.args.store.now in
-    released_anyway m _ (c.args.word - 1) c.release-else-order-gt1.result (g.S.BlockStore.whole c.args.store.now) c.release-else-order-gt1.ensures.answer c.release-else-order-gt1.ensures.after ∙
-    sym (elim c.else-order-gt1.branch [
-      | else-order-gt1-via-then-order-gt1+else-held_once w ↦ released_more c.args.order c.args.word m (omega arith) (omega arith) (eqb-false _ _ (sym w.held_once.ensures ∙ w.if-held_once.false))
-      | else-order-gt1-via-else-order-gt1 w ↦ let o : c.args.order ≡ 1 = omega arith in rw o (released_leaf c.args.word m (omega arith))
+    let d : c.in-Some.b ≡ c.args.word - 1 = omega (arith, c.in-Some.ensures) in
+    let r = released_anyway m _ c.in-Some.b c.release-else-order-gt1.result (g.S.BlockStore.whole c.args.store.now) c.release-else-order-gt1.ensures.answer c.release-else-order-gt1.ensures.after ∙ ap (released m) d in
+    r ∙ sym (elim c.else-order-gt1.branch [
+      | else-order-gt1-via-then-order-gt1+else-held_once w ↦ released_more c.args.order c.args.word m (omega arith) (omega (arith, c.in-Some.ensures)) (λ h. eqb-false _ _ (sym w.held_once.ensures ∙ w.if-held_once.false) (ap m.holders d ∙ h))
+      | else-order-gt1-via-else-order-gt1 w ↦ let o : c.args.order ≡ 1 = omega arith in rw o (released_leaf c.args.word m (omega (arith, c.in-Some.ensures)))
     ])

@@ -1,12 +1,12 @@
-use Rattle.std.proofs.Common.{false, get_or}
 use Rattle.forest.proofs.Drops.{drop_none, drop_step, drop_all}
+use Rattle.node.specs.Children.{fresh_at, word_at}
 use Rattle.node.proofs.releases.drop_fresh.Goals as goal
 
-pub loop-i-init : goal.loop-i-init
-loop-i-init g c = drop_none c.args.order (λ j. get_or c.args.words.now j 0) (λ j. get_or c.args.fresh.now j false) _
+pub loop-child-init : goal.loop-child-init
+loop-child-init g c = drop_none c.args.order (word_at c.args.children.now) (fresh_at c.args.children.now) _
 
-pub loop-i-preserved : goal.loop-i-preserved
-loop-i-preserved g c = drop_step c.args.order (λ j. get_or c.args.words.now j 0) (λ j. get_or c.args.fresh.now j false) _ _ _ c.loop-i.i c.loop-i-test.true c.loop-i.invariant c.drop_word.ensures
+pub loop-child-preserved : goal.loop-child-preserved
+loop-child-preserved g c = drop_step c.args.order (word_at c.args.children.now) (fresh_at c.args.children.now) _ _ _ c.loop-child.child-index c.loop-child-test.true c.loop-child.invariant c.drop_fresh.ensures
 
 pub returns : goal.returns
-returns g c = drop_all c.args.order (λ j. get_or c.args.words.now j 0) (λ j. get_or c.args.fresh.now j false) _ _ c.loop-i.i c.loop-i-test.false c.loop-i.auto.i-end c.loop-i.invariant
+returns g c = drop_all c.args.order (word_at c.args.children.now) (fresh_at c.args.children.now) _ _ c.loop-child.child-index c.loop-child-test.false c.loop-child.auto.child-index-end c.loop-child.invariant

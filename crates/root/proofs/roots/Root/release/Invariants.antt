@@ -5,4 +5,4 @@ use Rattle.root.proofs.roots.Root.release.Given as goal
 
 -- the first trees are let go
 abbrev pub invariant-loop-part : goal.invariant-loop-part
-invariant-loop-part g l = g.S.BlockStore.blocks l.store ≡ freed depth (g.S.BlockStore.blocks l.initial.store) l.tops l.part
+invariant-loop-part g l = g.S.BlockStore.blocks l.store ≡ freed depth (g.S.BlockStore.blocks l.initial.store) l.tops l.part-index

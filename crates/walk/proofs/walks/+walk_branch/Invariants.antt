@@ -1,0 +1,11 @@
+use Rattle.std.proofs.Common.{◌≡◌, ◌-◌, ◌*◌, ◌^◌}
+use Rattle.forest.specs.Trees.{lookup}
+use Rattle.walk.specs.Walks.{over, visit}
+use Rattle.walk.proofs.walks.+walk_branch.Given as goal
+
+abbrev pub decreases-walk_branch : goal.decreases-walk_branch
+decreases-walk_branch g l = l.branch.stretch.order
+
+-- the first i parts are walked
+abbrev pub invariant-loop-i : goal.invariant-loop-i
+invariant-loop-i g l = l.visitor ≡ over (visit (g.R.Region.has l.region) g.V.Visitor.step (lookup (g.S.BlockStore.blocks l.store) l.branch.stretch.order l.branch.word)) (l.branch.stretch.at * 16 ^ l.branch.stretch.order) (l.i * 16 ^ (l.branch.stretch.order - 1)) l.initial.visitor
