@@ -1,6 +1,6 @@
 -- A stretch changes where one of its cells does.
 use Rattle.std.proofs.Common.{◌≡◌, ℕ, zero, suc, ◌+◌, ◌-◌, ◌*◌, ◌/◌, ◌%◌, ◌^◌, ◌<◌, ◌≤◌, Bool, true, false, ◌||◌, List, [], ◌∷◌, ◌++◌, sym, refl, ap, ◌∙◌, mul_assoc, suc-mul, mul_comm, add-mul, pow-suc, arith}
-use native.Mathlib.Nat.{div-div-eq-div-mul}
+use Rattle.std.proofs.Math.Nat.{div-div-eq-div-mul}
 use Rattle.block.specs.Blocks.{Blocks}
 use Rattle.forest.proofs.Digits.{power_suc}
 use Rattle.forest.specs.Trees.{child, look, digits, lookup}

@@ -1,6 +1,6 @@
 -- A new snapshot: one tree of the head is rebuilt, and a root block is filled with it and the head's other trees.
 use Rattle.std.proofs.Common.{◌≡◌, ℕ, zero, suc, ◌+◌, ◌-◌, ◌*◌, ◌/◌, ◌%◌, ◌^◌, ◌<◌, ◌≤◌, Bool, false, cond, ◌≢◌, sym, refl, ap, ◌∙◌, subst, pow-suc, arith, eq-eqb, ne_eqb}
-use native.Mathlib.Decide.{ℕ_discrete, dec_lt}
+use Rattle.std.proofs.Math.Decide.{ℕ_discrete, dec_lt}
 use Rattle.block.specs.Blocks.{Blocks, Whole, sum_to}
 use Rattle.forest.specs.Trees.{child}
 use Rattle.forest.specs.Balance.{hit, hold, Label, root, node, below, leads, Points, Balanced}

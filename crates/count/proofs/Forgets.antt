@@ -1,6 +1,6 @@
 -- A snapshot is forgotten: its root block and its trees are let go.
 use Rattle.std.proofs.Common.{◌≡◌, ℕ, zero, suc, ◌+◌, ◌-◌, ◌<◌, ◌≤◌, sym, refl, ap, ◌∙◌, subst, arith}
-use native.Mathlib.Decide.{ℕ_discrete}
+use Rattle.std.proofs.Math.Decide.{ℕ_discrete}
 use Rattle.block.specs.Blocks.{Blocks, sum_to}
 use Rattle.forest.specs.Trees.{child}
 use Rattle.forest.specs.Balance.{hit, hold, Label, root, node, below, leads, from, Points, Balanced}

@@ -1,6 +1,6 @@
 -- The blocks that are out are those on the paths of the snapshots.
 use Rattle.std.proofs.Common.{◌≡◌, ℕ, zero, suc, ◌+◌, ◌-◌, ◌*◌, ◌/◌, ◌%◌, ◌^◌, ◌<◌, ◌≤◌, ◌≢◌, sym, refl, ap, ◌∙◌, subst, pow-suc, arith}
-use native.Mathlib.Decide.{ℕ_discrete}
+use Rattle.std.proofs.Math.Decide.{ℕ_discrete}
 use Rattle.block.specs.Blocks.{Blocks, sum_to}
 use Rattle.forest.specs.Trees.{child}
 use Rattle.forest.specs.Balance.{hit, Label, root, node, below, leads}

@@ -1,6 +1,6 @@
 -- The ties of paths and history are kept.
 use Rattle.std.proofs.Common.{◌≡◌, ℕ, zero, suc, ◌-◌, ◌/◌, ◌%◌, ◌<◌, ◌≤◌, Bool, true, false, cond, ◌≢◌, ◌↔◌, sym, refl, ap, ◌∙◌, arith, eq-eqb, ne_eqb}
-use native.Mathlib.Decide.{ℕ_discrete}
+use Rattle.std.proofs.Math.Decide.{ℕ_discrete}
 use Rattle.forest.specs.Balance.{Label, root, node}
 use Rattle.block.specs.Blocks.{Blocks}
 use Rattle.forest.specs.Trees.{child}

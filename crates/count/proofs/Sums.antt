@@ -1,6 +1,6 @@
 -- Sums, and how many different values there are.
 use Rattle.std.proofs.Common.{◌≡◌, ℕ, zero, suc, ◌+◌, ◌<◌, ◌≤◌, Bool, true, false, cond, ◌||◌, eqb, ◌≢◌, ◌↔◌, sym, refl, ap, ◌∙◌, arith, eq-eqb, ne_eqb}
-use native.Mathlib.Decide.{ℕ_discrete}
+use Rattle.std.proofs.Math.Decide.{ℕ_discrete}
 use Rattle.block.specs.Blocks.{sum_to}
 use Rattle.forest.specs.Plans.{any_to}
 use Rattle.block.proofs.Sums.{sum_same, sum_at, sum_none}

@@ -1,6 +1,6 @@
 -- The numbers of a tree's cells fit 32 bits.
 use Rattle.std.proofs.Common.{◌≡◌, ℕ, suc, ◌+◌, ◌-◌, ◌*◌, ◌^◌, ◌<◌, ◌≤◌, ◌≢◌, ap, ◌∙◌, pow-suc, arith}
-use native.Mathlib.Nat.{pow-le-pow_right}
+use Rattle.std.proofs.Math.Nat.{pow-le-pow_right}
 
 pub at_child : (a o i : ℕ) → a < 16 ^ (4 - o) → o ≢ 0 → o ≤ 4 → i < 16 → a * 16 + i < 16 ^ (4 - (o - 1))
 at_child a o i l z h j =

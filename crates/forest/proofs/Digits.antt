@@ -1,6 +1,6 @@
 -- The digits of a cell's number.
 use Rattle.std.proofs.Common.{◌≡◌, ℕ, zero, suc, ◌+◌, ◌*◌, ◌/◌, ◌%◌, ◌^◌, ◌<◌, length, sym, refl, ap, ◌∙◌, subst, mod-eq_of_lt, mul_assoc, mul_comm, add-mul, pow-suc, arith, pow-add}
-use lib.Pow.{mod-pow-add}
+use Rattle.std.proofs.lemmas.Nat.{mod-pow-add}
 use Rattle.std.specs.List.{AllByRecursion}
 use Rattle.block.specs.Blocks.{Blocks}
 use Rattle.forest.specs.Trees.{digits, lookup}

@@ -1,7 +1,7 @@
 -- A block is taken and filled.
 use Rattle.std.proofs.Common.{◌≡◌, ℕ, zero, suc, ◌+◌, ◌-◌, ◌<◌, ◌≤◌, Bool, true, false, cond, ltb, ◌≢◌, is_ok, IfOk, Ok, Err, Result, sym, refl, ap, ◌∙◌, subst, add-one, arith, le-ltb, ne_eqb}
-use mathlib.Core.Path.{fun_ext}
-use native.Mathlib.Decide.{ℕ_discrete}
+use Rattle.std.proofs.Math.Path.{fun_ext}
+use Rattle.std.proofs.Math.Decide.{ℕ_discrete}
 use Rattle.std.proofs.lemmas.Bool.Decides.{nat_tests}
 use Rattle.block.specs.Blocks.{Blocks, sum_to}
 use Rattle.block.specs.Calls.{taken, kept, written, put_answer, refused_if, Picked}

@@ -2,7 +2,7 @@
 use Rattle.std.proofs.Common.{◌≡◌, ℕ, zero, suc, ◌+◌, ◌-◌, ◌*◌, ◌^◌, ◌<◌, ◌≤◌, Bool, true, false, cond, ◌||◌, ◌≢◌, Option, Some, None, MatchOption, is_some, sym, refl, ap, ◌∙◌, subst, suc-mul, arith}
 use Rattle.std.specs.Bool.{then_some}
 use Rattle.std.specs.Option.{unwrap_or}
-use native.Mathlib.Nat.{pow-le-pow_right, one-le-pow}
+use Rattle.std.proofs.Math.Nat.{pow-le-pow_right, one-le-pow}
 use Rattle.std.proofs.lemmas.Bool.{cond-true, cond-false}
 use Rattle.block.specs.Blocks.{Blocks, sum_to}
 use Rattle.block.proofs.Sums.{sum_more}

@@ -1,6 +1,6 @@
 -- Each block that is out is reached from outside, and has no more holders than are outside and blocks are out.
 use Rattle.std.proofs.Common.{◌≡◌, ℕ, zero, suc, ◌+◌, ◌<◌, ◌≤◌, sym, ap, ◌∙◌, arith}
-use native.Mathlib.Decide.{ℕ_discrete}
+use Rattle.std.proofs.Math.Decide.{ℕ_discrete}
 use Rattle.block.specs.Blocks.{Blocks, sum_to}
 use Rattle.forest.specs.Balance.{Label, root, node, below, leads, from, Balanced}
 use Rattle.forest.specs.Reach.{Reached, root as held, step}

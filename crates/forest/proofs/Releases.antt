@@ -1,6 +1,6 @@
 -- What `let_go` is, by cases.
 use Rattle.std.proofs.Common.{◌≡◌, ℕ, zero, suc, ◌-◌, Bool, true, false, cond, eqb, ◌≢◌, List, [], ◌∷◌, is_ok, Ok, Err, fold, Result, sym, refl, ap, ◌∙◌, arith, eq-eqb, ne_eqb}
-use native.Mathlib.Decide.{ℕ_discrete}
+use Rattle.std.proofs.Math.Decide.{ℕ_discrete}
 use Rattle.std.proofs.lemmas.Bool.Decides.{nat_tests}
 use Rattle.block.specs.Blocks.{Blocks, Whole}
 use Rattle.block.specs.Calls.{released, release_answer}

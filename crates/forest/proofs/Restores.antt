@@ -1,6 +1,6 @@
 -- Two balanced stores with the same pointers outside, whose common blocks have the same words, are equal.
 use Rattle.std.proofs.Common.{◌≡◌, ℕ, ◌<◌, sym, ap, ◌∙◌, subst, arith}
-use native.Mathlib.Decide.{ℕ_discrete}
+use Rattle.std.proofs.Math.Decide.{ℕ_discrete}
 use Rattle.block.specs.Blocks.{Blocks, sum_to}
 use Rattle.forest.specs.Balance.{Label, node, below, leads, from, Points, Balanced}
 use Rattle.forest.specs.Reach.{Reached, root as held, step}

@@ -1,6 +1,6 @@
 -- More of sums over the numbers below n.
 use Rattle.std.proofs.Common.{◌≡◌, ℕ, zero, suc, ◌+◌, ◌<◌, ◌≤◌, Bool, true, false, cond, ap, arith}
-use native.Mathlib.Decide.{ℕ_discrete}
+use Rattle.std.proofs.Math.Decide.{ℕ_discrete}
 use Rattle.block.specs.Blocks.{sum_to}
 use Rattle.block.proofs.Sums.{sum_none}
 

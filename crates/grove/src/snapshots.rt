@@ -51,13 +51,19 @@ pub fn blank<S: BlockStore>(store: &mut S) -> Option<Root> {
     Root::blank(store).ok()
 }
 
+fn edit<S: BlockStore>(
+    store: &mut S,
+    root: Option<Root>,
+    part: Part,
+    plan: OneCell,
+) -> Option<Root> {
+    root?.edit(store, part, &plan).ok().flatten()
+}
+
 // The snapshot with a dot painted black, or none where the blocks do not suffice.
 pub fn paint<S: BlockStore>(store: &mut S, root: Option<Root>, index: u32) -> Option<Root> {
     let word = Dots::pack(Dot::black());
-    root?
-        .edit(store, PAINTED, &OneCell { index, word })
-        .ok()
-        .flatten()
+    edit(store, root, PAINTED, OneCell { index, word })
 }
 
 // The snapshot with a record for a layer.
@@ -68,10 +74,7 @@ pub fn record<S: BlockStore>(
     opacity: u8,
 ) -> Option<Root> {
     let word = LayerRecords::pack(Some(opacity));
-    root?
-        .edit(store, Part::Records, &OneCell { index, word })
-        .ok()
-        .flatten()
+    edit(store, root, Part::Records, OneCell { index, word })
 }
 
 pub fn release<S: BlockStore>(store: &mut S, root: Option<Root>) {

@@ -12,7 +12,3 @@ loop-i-preserved g c =
     let inv = c.loop-i.invariant in
     let h = fill_holdable c.args.order c.in_ok-b.b (word_at cs) (fresh_at cs) _ _ c.loop-i.i inv.0 inv.1 c.loop-i-test.true in
     (inv.0, fill_step c.args.order c.in_ok-b.b (word_at cs) (fresh_at cs) _ _ _ _ c.loop-i.i _ inv.1 c.loop-i-test.true (c.hold.ensures h) c.put.ensures.answer (rw c.word.ensures at c.put.ensures.after))
-
-pub returns : goal.returns
-returns g c =
-    (omega arith, fill_done c.args.order c.in_ok-b.b (word_at c.args.children.now) (fresh_at c.args.children.now) _ _ _ c.loop-i.i c.in_ok-b.ensures.after c.loop-i-test.false c.loop-i.auto.i-end c.loop-i.invariant.1)

@@ -14,14 +14,6 @@ returns-then-order-eq0 g t c = rw c.if-order-eq0.true (sym (released_flat _ c.ar
 pub returns-in_default : goal.returns-in_default
 returns-in_default g t c = let e : c.args.word ≡ 0 = omega (arith, c.in_default.ensures) in rw e (sym (released_null c.args.order _))
 
-pub loop-child-preserved : goal.loop-child-preserved
-loop-child-preserved g t c =
-    let k = c.args.order - 1 in
-    let ws = c.words_of-children.result in
-    let m = g.S.BlockStore.blocks c.loop-child.store in
-    let e = at_drop_more (fold (let_go k) m) ws c.loop-child.child-index 0 (omega arith) in
-    ap (λ (n : Blocks). fold (let_go k) n (drop (c.loop-child.child-index + 1) ws)) c.let_go.ensures ∙ sym e ∙ c.loop-child.invariant
-
 pub returns-after-loop-child : goal.returns-after-loop-child
 returns-after-loop-child g t c =
     let k = c.args.order - 1 in
