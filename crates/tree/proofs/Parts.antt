@@ -49,7 +49,7 @@ module _ (new : ℕ → ℕ → ℕ) (m n : Blocks) (o p a : ℕ) (cs : List Chi
       let words = λ (j : ℕ) (s : j < i). word_else cs i x j (omega arith) in
       let marks = λ (j : ℕ) (s : j < i). fresh_else cs i x j (omega arith) in
       let more : (any_to i (fresh_at cs) || is_fresh x) ≡ any_to (i + 1) (fresh_at (set cs i x)) =
-          ap (λ t. t || is_fresh x) (sym (any_below i (fresh_at (set cs i x)) (fresh_at cs) marks)) ∙ ap (λ t. any_to i (fresh_at (set cs i x)) || t) (sym (fresh_here cs i x l)) ∙ sym (any_more i (fresh_at (set cs i x))) in
+      ap (λ t. t || is_fresh x) (sym (any_below i (fresh_at (set cs i x)) (fresh_at cs) marks)) ∙ ap (λ t. any_to i (fresh_at (set cs i x)) || t) (sym (fresh_here cs i x l)) ∙ sym (any_more i (fresh_at (set cs i x))) in
       record {
         part = subst (λ t. Part new m u (o - 1) p a (word_at (set cs i x)) (fresh_at (set cs i x)) t (i + 1)) more (part_next new m n u o p a (word_at cs) (word_at (set cs i x)) (fresh_at cs) (fresh_at (set cs i x)) (any_to i (fresh_at cs)) i (word_of x) (is_fresh x) h v f.part d.0 words (word_here cs i x l) marks (fresh_here cs i x l));
         count = subst (λ t. Counting new m u (o - 1) p a (word_at (set cs i x)) t (i + 1)) more (next_count new m n o p a (word_at cs) (fresh_at cs) (any_to i (fresh_at cs)) i h v f.part f.count u (child n p i) (word_of x) (is_fresh x) (word_at (set cs i x)) refl d.0.grown words (word_here cs i x l) d.1);

@@ -1,9 +1,11 @@
 // Branches: a tree and the parts into which it falls.
-ghost use Rattle.std.specs.Prelude.{◌≡◌, ◌+◌, ◌-◌, ◌*◌, ◌<◌, ◌≢◌};
-ghost use Rattle.forest.specs.Trees.{child};
+ghost use Rattle.std.specs.Prelude.{◌≡◌, ℕ, ◌<◌, ◌≢◌, MatchOption, slice_index_or};
+ghost use Rattle.tree.specs.declared.branches.Branch.{Branch};
+ghost use Rattle.tree.specs.Branches.{IsPart};
 
 use crate::trees::{Stretch, Tree};
 use block::BlockStore;
+use std::array;
 
 // A stretch of a tree, with its word in the blocks of a store.
 #[derive(Clone, Copy)]
@@ -13,13 +15,11 @@ pub struct Branch {
 }
 
 impl Branch {
-    // One of the sixteen branches of which this one consists; a cell has none.
-    pub fn part<S: BlockStore>(self, store: &S, i: u32) -> Branch
+    // Part i of the sixteen.
+    pub(crate) fn part<S: BlockStore>(self, store: &S, i: u32) -> Branch
         requires parted { self.stretch.order ≢ 0 }
         requires sixteen { i < 16 }
-        ensures order { result.stretch.order ≡ self.stretch.order - 1 }
-        ensures at { result.stretch.at ≡ self.stretch.at * 16 + i }
-        ensures word { result.word ≡ child (S.BlockStore.blocks store.now) self.word i }
+        ensures { IsPart (S.BlockStore.blocks store.now) self i result }
     {
         Branch {
             stretch: Stretch {
@@ -28,6 +28,16 @@ impl Branch {
             },
             word: node::child_of(store, self.word, i),
         }
+    }
+
+    // The sixteen branches of which this one consists, or none where it is a cell.
+    pub fn parts<S: BlockStore>(self, store: &S) -> Option<[Branch; 16]>
+        ensures { MatchOption result (self.stretch.order ≡ 0) (λ parts. (self.stretch.order ≢ 0) × ((i : ℕ) (d : Branch) → i < 16 → IsPart (S.BlockStore.blocks store.now) self i (slice_index_or parts i d))) }
+    {
+        if self.stretch.order == 0 {
+            return None;
+        }
+        Some(array::from_fn(|i| self.part(store, i as u32)))
     }
 }
 

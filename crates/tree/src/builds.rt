@@ -28,6 +28,7 @@ fn build<S: BlockStore, P: Plan>(store: &mut S, plan: &P, branch: Branch) -> Res
     }
     let order = branch.stretch.order - 1;
     let mut children = [Child::Kept(0); 16];
+    // part by part: the array of `parts` takes more than the time that a rebuild may take
     for (i, child) in children.iter_mut().enumerate() {
         match build(store, plan, branch.part(store, i as u32)) {
             Ok(built) => *child = built,

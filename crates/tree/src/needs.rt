@@ -14,14 +14,14 @@ fn count<S: BlockStore, P: Plan>(store: &S, plan: &P, branch: Branch) -> Option<
     if !plan.touches(branch.stretch) {
         return None;
     }
-    if branch.stretch.order == 0 {
+    let Some(parts) = branch.parts(store) else {
         let new = plan.new_word(branch.stretch.at, branch.word);
         return (new != branch.word).then_some(0);
-    }
+    };
     let mut changed = false;
     let mut blocks = 1;
-    for i in 0..16 {
-        let of_part = count(store, plan, branch.part(store, i));
+    for part in parts {
+        let of_part = count(store, plan, part);
         changed |= of_part.is_some();
         blocks += of_part.unwrap_or(0);
     }

@@ -22,14 +22,14 @@ fn walk_branch<S: BlockStore, R: Region, V: Visitor>(
     if !region.meets(branch.stretch) {
         return;
     }
-    if branch.stretch.order == 0 {
+    let Some(parts) = branch.parts(store) else {
         if region.has(branch.stretch.at) {
             visitor.visit(branch.stretch.at, branch.word);
         }
         return;
-    }
-    for i in 0..16 {
-        walk_branch(store, region, visitor, branch.part(store, i));
+    };
+    for part in parts {
+        walk_branch(store, region, visitor, part);
     }
 }
 

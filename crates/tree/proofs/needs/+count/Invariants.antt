@@ -7,6 +7,6 @@ use Rattle.tree.proofs.needs.+count.Given as goal
 abbrev pub decreases-count : goal.decreases-count
 decreases-count g l = l.branch.stretch.order
 
--- the first i parts are counted
-abbrev pub invariant-loop-i : goal.invariant-loop-i
-invariant-loop-i g l = (l.changed ≡ any_to l.i (λ j. changes (g.P.Plan.new l.plan) (g.S.BlockStore.blocks l.store) (l.branch.stretch.order - 1) (child (g.S.BlockStore.blocks l.store) l.branch.word j) (l.branch.stretch.at * 16 + j))) × (l.blocks ≡ suc (sum_to l.i (λ j. needed (g.P.Plan.new l.plan) (g.S.BlockStore.blocks l.store) (l.branch.stretch.order - 1) (child (g.S.BlockStore.blocks l.store) l.branch.word j) (l.branch.stretch.at * 16 + j))))
+-- the first parts are counted
+abbrev pub invariant-loop-part : goal.invariant-loop-part
+invariant-loop-part g l = (l.changed ≡ any_to l.part-index (λ j. changes (g.P.Plan.new l.plan) (g.S.BlockStore.blocks l.store) (l.fn.branch.stretch.order - 1) (child (g.S.BlockStore.blocks l.store) l.fn.branch.word j) (l.fn.branch.stretch.at * 16 + j))) × (l.blocks ≡ suc (sum_to l.part-index (λ j. needed (g.P.Plan.new l.plan) (g.S.BlockStore.blocks l.store) (l.fn.branch.stretch.order - 1) (child (g.S.BlockStore.blocks l.store) l.fn.branch.word j) (l.fn.branch.stretch.at * 16 + j))))

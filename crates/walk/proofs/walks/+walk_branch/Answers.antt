@@ -8,10 +8,11 @@ returns-then-branch-eq0 g t c = rw c.if-branch-eq0.true (sym (walk_blank (g.R.Re
 pub returns-then-not-meets : goal.returns-then-not-meets
 returns-then-not-meets g t c = sym (walk_clear (g.R.Region.has c.args.region.now) g.V.Visitor.step (g.S.BlockStore.blocks c.args.store.now) c.args.branch.stretch.order c.args.branch.word c.args.branch.stretch.at c.args.visitor.now (c.meets.ensures c.if-not-meets.true))
 
-pub loop-i-preserved : goal.loop-i-preserved
-loop-i-preserved g t c =
+pub loop-part-preserved : goal.loop-part-preserved
+loop-part-preserved g t c =
     let b = c.args.branch in
-    walk_more (g.R.Region.has c.args.region.now) g.V.Visitor.step (g.S.BlockStore.blocks c.args.store.now) b.stretch.order b.word b.stretch.at c.loop-i.i c.part.result.word c.args.visitor.now c.loop-i.visitor _ c.if-branch-eq0-2.false c.loop-i-test.true c.part.ensures.word c.loop-i.invariant (rw (c.part.ensures.order, c.part.ensures.at) at c.walk_branch.ensures)
+    let q = c.in-Some.ensures.1 c.loop-part.part-index c.part-item.result c.loop-part-test.true in
+    walk_more (g.R.Region.has c.args.region.now) g.V.Visitor.step (g.S.BlockStore.blocks c.args.store.now) b.stretch.order b.word b.stretch.at c.loop-part.part-index _ c.args.visitor.now c.loop-part.visitor _ c.in-Some.ensures.0 c.loop-part-test.true q.word c.loop-part.invariant (rw (q.order, q.at) at c.walk_branch.ensures)
 
 pub returns : goal.returns
-returns g t c = walk_all (g.R.Region.has c.args.region.now) g.V.Visitor.step (g.S.BlockStore.blocks c.args.store.now) c.args.branch.stretch.order c.args.branch.word c.args.branch.stretch.at c.loop-i.i c.args.visitor.now c.loop-i.visitor c.if-branch-eq0-2.false (omega arith) c.loop-i.invariant
+returns g t c = walk_all (g.R.Region.has c.args.region.now) g.V.Visitor.step (g.S.BlockStore.blocks c.args.store.now) c.args.branch.stretch.order c.args.branch.word c.args.branch.stretch.at c.loop-part.part-index c.args.visitor.now c.loop-part.visitor c.in-Some.ensures.0 (omega arith) c.loop-part.invariant
