@@ -1,11 +1,8 @@
 -- Grounds of refusal, tried in order.
-use Rattle.std.proofs.Common.{◌≡◌, ℕ, Bool, true, false, cond, ◌||◌, List, [], ◌∷◌, ◌++◌, sym, refl, ap, ◌∙◌, arith}
-use mathlib.Core.Option.{Option, none, some}
+use Rattle.std.proofs.Common.{◌≡◌, ℕ, Bool, true, false, cond, ◌||◌, List, [], ◌∷◌, ◌++◌, refl, ap}
+use Rattle.std.proofs.Math.Option.{Option, none, some}
 use Rattle.rules.specs.Refusals.{Refusal, Ground, first, numbers}
 use Rattle.standing.specs.States.{verdict}
-
-pub some_not_none : {A : Type 0} {x : A} → some x ≡ none → ⊥
-some_not_none e = let z : ◌≡◌ {A = ℕ} 0 1 = cc in omega arith
 
 -- the numbers of a refusal, or none
 abbrev told : Option Refusal → Option (List ℕ)
@@ -20,7 +17,7 @@ past b r gs e = ap (λ c. told (cond c (some r) (first gs))) e
 
 -- the grounds of a list come before those of the next
 pub stops : (gs hs : List Ground) (ns : List ℕ) → some ns ≡ verdict gs → some ns ≡ verdict (gs ++ hs)
-stops [] hs ns e = absurd (some_not_none e)
+stops [] hs ns e = cc
 stops (g ∷ gs) hs ns e = go g.0 e (stops gs hs ns)
   where
     go : (b : Bool) → some ns ≡ told (cond b (some g.1) (first gs)) → (some ns ≡ verdict gs → some ns ≡ verdict (gs ++ hs)) → some ns ≡ told (cond b (some g.1) (first (gs ++ hs)))
@@ -32,7 +29,7 @@ passes [] hs e = refl
 passes (g ∷ gs) hs e = go g.0 e (passes gs hs)
   where
     go : (b : Bool) → none ≡ told (cond b (some g.1) (first gs)) → (none ≡ verdict gs → verdict (gs ++ hs) ≡ verdict hs) → told (cond b (some g.1) (first (gs ++ hs))) ≡ verdict hs
-    go true f ih = absurd (some_not_none (sym f))
+    go true f ih = cc
     go false f ih = ih f
 
 -- where no ground holds there is no refusal
@@ -41,11 +38,11 @@ none_first gs e = go (first gs) e
   where
     go : (o : Option Refusal) → none ≡ told o → o ≡ none
     go none f = refl
-    go (some r) f = absurd (some_not_none (sym f))
+    go (some r) f = cc
 
 -- what the one ground of a list says
 pub fails : (b : Bool) (r : Refusal) → none ≡ verdict ((b, r) ∷ []) → b ≡ false
-fails true r e = absurd (some_not_none (sym e))
+fails true r e = cc
 fails false r e = refl
 
 -- two grounds with one refusal are one
@@ -55,10 +52,10 @@ both_pass false b r e f = f
 
 pub first_stops : (a b : Bool) (r : Refusal) (ns : List ℕ) → some ns ≡ verdict ((a, r) ∷ []) → some ns ≡ verdict ((a || b, r) ∷ [])
 first_stops true b r ns e = e
-first_stops false b r ns e = absurd (some_not_none e)
+first_stops false b r ns e = cc
 
 pub second_stops : (a b : Bool) (r : Refusal) (ns : List ℕ) → some ns ≡ verdict ((b, r) ∷ []) → some ns ≡ verdict ((a || b, r) ∷ [])
 second_stops true true r ns e = e
 second_stops false true r ns e = e
-second_stops true false r ns e = absurd (some_not_none e)
+second_stops true false r ns e = cc
 second_stops false false r ns e = e

@@ -1,15 +1,15 @@
 -- Of snapshots that stand in the order of their making the one made latest is the last.
-use Rattle.std.proofs.Common.{◌≡◌, ℕ, ◌<◌, Bool, true, false, cond, eqb, ltb, List, [], ◌∷◌, map, Some, None, sym, refl, ap, ◌∙◌, subst, ap₂, lt-ltb}
-use mathlib.Core.Option.{Option, none, some}
+use Rattle.std.proofs.Common.{◌≡◌, ℕ, ◌<◌, Bool, true, false, cond, eqb, List, [], ◌∷◌, Some, None, sym, refl, ap, ◌∙◌, lt-ltb}
+use Rattle.std.proofs.Math.Option.{Option, none, some}
 use Rattle.std.specs.List.{AllByRecursion}
 use Rattle.std.specs.declared.option.Option as option
 use Rattle.rules.specs.Lists.{keep}
-use Rattle.history.specs.Histories.{Snapshot, last_place, stands_under, latest_from, latest}
+use Rattle.history.specs.Histories.{Snapshot, last_place, stands_under, latest_from}
 use Rattle.calls.specs.Told.{maybe}
-use Rattle.table.specs.Tables.{at, is_number, under, or_else, last_under}
+use Rattle.std.specs.Option.{option_or}
+use Rattle.table.specs.Tables.{parent_at, is_number}
 use Rattle.table.specs.declared.records.Snapshot as table
 use Rattle.standing.specs.Standing.{Ordered}
-use Rattle.standing.proofs.Grounds.{some_not_none}
 
 -- the last of p and some others
 abbrev last_from : Snapshot → List Snapshot → Snapshot
@@ -42,19 +42,19 @@ same_parent : (s : ℕ) (o : option.Option ℕ) (q : Option ℕ) → maybe o ≡
 same_parent s None q e = ap (λ (o : Option ℕ). elim o [ none ↦ false | some r ↦ eqb r s ]) e
 same_parent s (Some r) q e = ap (λ (o : Option ℕ). elim o [ none ↦ false | some r ↦ eqb r s ]) e
 
-abbrev pub Agrees : List table.Snapshot → Snapshot → Type 0
-Agrees ss p = maybe (at ss p.number).parent ≡ p.parent
+abbrev pub Agrees : List (option.Option table.Snapshot) → Snapshot → Type 0
+Agrees ss p = maybe (parent_at ss p.number) ≡ p.parent
 
-pub same_under : (ss : List table.Snapshot) (s : ℕ) (p : Snapshot) → Agrees ss p → under s (at ss p.number) ≡ stands_under s p
-same_under ss s p a = same_parent s (at ss p.number).parent p.parent a
+pub same_under : (ss : List (option.Option table.Snapshot)) (s : ℕ) (p : Snapshot) → Agrees ss p → is_number s (parent_at ss p.number) ≡ stands_under s p
+same_under ss s p a = same_parent s (parent_at ss p.number) p.parent a
 
 -- the number of the last on a list
 abbrev last_number : List Snapshot → Option ℕ
 last_number [] = none
 last_number (p ∷ ps) = some (last_from p ps).number
 
-or_last : (o : option.Option ℕ) (q : ℕ) (ps : List Snapshot) (p : Snapshot) → p.number ≡ q → maybe o ≡ last_number ps → maybe (or_else o (Some q)) ≡ last_number (p ∷ ps)
+or_last : (o : option.Option ℕ) (q : ℕ) (ps : List Snapshot) (p : Snapshot) → p.number ≡ q → maybe o ≡ last_number ps → maybe (option_or o (Some q)) ≡ last_number (p ∷ ps)
 or_last None q [] p e f = ap some (sym e)
-or_last (Some r) q [] p e f = absurd (some_not_none f)
-or_last None q (r ∷ ps) p e f = absurd (some_not_none (sym f))
+or_last (Some r) q [] p e f = cc
+or_last None q (r ∷ ps) p e f = cc
 or_last (Some t) q (r ∷ ps) p e f = f

@@ -1,12 +1,12 @@
 -- A call that is refused, and one that is not.
 use Rattle.std.proofs.Common.{◌≡◌, ℕ, suc, ◌<◌, ◌≤◌, Bool, true, false, not, T, eqb, List, [], ◌∷◌, Some, None, sym, refl, ap, ◌∙◌, subst, arith}
-use mathlib.Core.Option.{Option, none, some}
+use Rattle.std.proofs.Math.Option.{Option, none, some}
 use Rattle.std.specs.declared.option.Option as option
-use Rattle.rules.specs.Refusals.{Refusal, first, numbers, not_started, not_live}
+use Rattle.rules.specs.Refusals.{Refusal, numbers, not_started, not_live}
 use Rattle.rules.proofs.Tests.{is_false}
 use Rattle.history.specs.Histories.{History, started, is_live}
 use Rattle.history.specs.Calls.{Call, Answer, refused, grounds, refusal, reply, answer, step, carried_out, of_snapshot}
-use Rattle.history.proofs.Sounds.{same_sound, carried_sound}
+use Rattle.history.proofs.Sounds.{same_sound}
 use Rattle.root.specs.Sheets.{places}
 use Rattle.bridge.proofs.Counts.{live_low}
 use Rattle.calls.specs.declared.answers.Size.{Size}
@@ -42,7 +42,7 @@ module _ (n i : ℕ) (c : State) (h : History) (k : Kept n i c h) where
   kept_refused a ns e = go (refusal n a h) e
     where
       go : (o : Option Refusal) → some ns ≡ elim o [ none ↦ none | some r ↦ some (numbers r) ] → Kept n (suc i) c (elim o [ none ↦ carried_out i a h | some r ↦ h ]) × (refused ns ≡ elim o [ none ↦ reply n a h | some r ↦ refused (numbers r) ])
-      go none f = absurd (let z : ◌≡◌ {A = ℕ} 0 1 = cc in omega arith)
+      go none f = cc
       go (some r) f = (same_kept, (let z : ns ≡ numbers r = cc in ap refused z))
 
   pub kept_granted : (a : Call) (said : Answer) (d : State) → none ≡ verdict (grounds n a h) → Kept n (suc i) d (carried_out i a h) → said ≡ reply n a h → Kept n (suc i) d (step n i a h) × (said ≡ answer n a h)

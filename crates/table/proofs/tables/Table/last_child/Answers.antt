@@ -1,14 +1,13 @@
-use Rattle.std.proofs.Common.{sym, ap, ◌∙◌, arith}
-use Rattle.table.specs.Tables.{under}
-use Rattle.table.proofs.Orders.{last_here, last_before}
+use Rattle.std.proofs.Common.{rules, tests, sym, ◌∙◌}
+use Rattle.std.proofs.lemmas.Iterator.Search.{find_from_yields_List}
+use Rattle.std.proofs.lemmas.Iterator.Adapters.{YieldsList-from_rev_slice, option_map_id}
+use Rattle.std.proofs.lemmas.Iterator.Consumers.{YieldsList-from_copied}
+use Rattle.table.proofs.Kept.{stands, last-is_find}
 use Rattle.table.proofs.tables.Table.last_child.Goals as goal
-use Rattle.table.proofs.tables.Table.last_child.Goals.{then-stands_under, else-stands_under}
 
-pub loop-i-preserved : goal.loop-i-preserved
-loop-i-preserved c =
-    let table = c.args.self.now in
-    let here = sym (c.stands_under.ensures.value ∙ ap (under c.args.number) c.get.ensures.value) in
-    elim c.if-stands_under.branch [
-      | then-stands_under w ↦ w.found-is ∙ last_here table.snapshots c.args.number table.order c.loop-i.i c.loop-i.found (omega arith) c.loop-i.invariant (here ∙ w.if-stands_under.true)
-      | else-stands_under w ↦ w.found-is ∙ last_before table.snapshots c.args.number table.order c.loop-i.i c.loop-i.found (omega arith) c.loop-i.invariant (here ∙ w.if-stands_under.false)
-    ]
+pub returns : goal.returns
+returns c =
+    let places = c.args.self.now.snapshots in
+    let made = c.args.self.now.order.made in
+    let found = find_from_yields_List (stands places c.args.number) _ _ c.find.result c.find.ensures.ran (YieldsList-from_copied (YieldsList-from_rev_slice made (cc))) (λ x b q k. search (rules, tests)) in
+    record { value = sym (option_map_id c.find.result) ∙ found ∙ sym (last-is_find places c.args.number made) }

@@ -1,26 +1,20 @@
-use Rattle.std.proofs.Common.{refl, arith}
-use Rattle.table.specs.Tables.{moved_up, vacant}
-use Rattle.table.proofs.Mapped.{same_length, mapped_more, mapped_all}
+use Rattle.std.proofs.Common.{Some, None, option_map, length, set, sym, ap, ◌∙◌, length-append, length-take, length-drop, arith}
+use Rattle.std.proofs.lemmas.List.{get_or_default, length-map}
+use Rattle.std.proofs.lemmas.List.Edits.{map_over_more}
+use Rattle.table.specs.Tables.{moved_up}
 use Rattle.table.proofs.tables.Table.move_children_up.Goals as goal
+use Rattle.table.proofs.tables.Table.move_children_up.Goals.{in-Some, in_default}
 
-pub loop-snapshot-init : goal.loop-snapshot-init
-loop-snapshot-init c = refl
-
-pub invariant_of-self : goal.invariant_of-self
-invariant_of-self c = record {
-  full = omega (arith, same_length (moved_up c.args.number c.args.parent) c.args.self.now.snapshots c.loop-snapshot.snapshot-items c.loop-snapshot.snapshot-index c.loop-snapshot.invariant);
-  listed = c.args.self.now.listed;
-  few = c.args.self.now.few;
-}
-
-pub loop-snapshot-preserved : goal.loop-snapshot-preserved
-loop-snapshot-preserved c =
-    mapped_more (moved_up c.args.number c.args.parent) c.args.self.now.snapshots c.loop-snapshot.snapshot-items c.loop-snapshot.snapshot-index vacant _
-    (omega (arith, same_length (moved_up c.args.number c.args.parent) c.args.self.now.snapshots c.loop-snapshot.snapshot-items c.loop-snapshot.snapshot-index c.loop-snapshot.invariant)) c.loop-snapshot.invariant c.move_up.ensures.after
-
-pub returns : goal.returns
-returns c = record {
-  snapshots = mapped_all (moved_up c.args.number c.args.parent) c.args.self.now.snapshots c.loop-snapshot.snapshot-items c.loop-snapshot.snapshot-index (omega (arith, same_length (moved_up c.args.number c.args.parent) c.args.self.now.snapshots c.loop-snapshot.snapshot-items c.loop-snapshot.snapshot-index c.loop-snapshot.invariant)) c.loop-snapshot.invariant;
-  order = refl;
-  count = refl;
-}
+pub loop-place-preserved : goal.loop-place-preserved
+loop-place-preserved c =
+    let f = option_map (moved_up c.args.number c.args.parent) in
+    let old = c.args.self.now.snapshots in
+    let now = c.loop-place.place-items in
+    let i = c.loop-place.place-index in
+    let long = simp (length-append, length-map, length-take, length-drop) at (ap length c.loop-place.invariant) in
+    elim c.match-place.branch [
+      | in-Some w ↦
+          w.place-items-is ∙ ap (λ v. set now i (Some v)) w.move_up.ensures.after
+          ∙ map_over_more f old now i _ (omega arith) c.loop-place.invariant (sym w.in-Some.is ∙ get_or_default now i None _ (omega (arith, long)))
+      | in_default w ↦ (rw w.in_default.is at w.place-items-is) ∙ map_over_more f old now i None (omega arith) c.loop-place.invariant (sym w.in_default.is)
+    ]
