@@ -4,6 +4,7 @@
 --   corners     a rectangle or none
 --   outcome     what a call that returned a result is answered
 --   done_with   what a call that only does something is answered
+--   replied     the answer of a call that was not refused
 --   told        an answer
 --   act         a call
 use Rattle.std.specs.Prelude.{ℕ, Some, None, Ok, Err, Option, Result}
@@ -14,8 +15,8 @@ use Rattle.history.specs.Calls as history
 use Rattle.ink.specs.Meanings.{dot_of}
 use Rattle.calls.specs.Refusals.{numbers_of}
 use Rattle.calls.specs.declared.refusals.Refusal.{Refusal}
-use Rattle.calls.specs.declared.answers.Answer.{Answer}
-use Rattle.calls.specs.declared.answers.Answer.TheVariants.{Done, Refused, Size, Number, Maybe, Dot, Truth, Corners}
+use Rattle.calls.specs.declared.answers.Reply.{Reply}
+use Rattle.calls.specs.declared.answers.Reply.TheVariants.{Done, Size, Number, Maybe, Dot, Truth, Corners}
 use Rattle.calls.specs.declared.asked.Call.{Call}
 use Rattle.calls.specs.declared.asked.Call.TheVariants as call
 
@@ -35,18 +36,20 @@ outcome said (Err e) = history.refused (numbers_of e)
 abbrev pub done_with : Result Unit Refusal → history.Answer
 done_with r = outcome (λ _. history.done) r
 
-abbrev pub told : Answer → history.Answer
-told Done = history.done
-told (Refused e) = history.refused (numbers_of e)
-told (Size s) = history.size s.width s.height
-told (Number n) = history.number n
-told (Maybe n) = history.number_or_none (maybe n)
-told (Dot d) = history.dot (dot_of d)
-told (Truth b) = history.truth b
-told (Corners b) = history.rectangle (corners b)
+abbrev pub replied : Reply → history.Answer
+replied Done = history.done
+replied (Size s) = history.size s.width s.height
+replied (Number n) = history.number n
+replied (Maybe n) = history.number_or_none (maybe n)
+replied (Dot d) = history.dot (dot_of d)
+replied (Truth b) = history.truth b
+replied (Corners b) = history.rectangle (corners b)
+
+abbrev pub told : Result Reply Refusal → history.Answer
+told a = outcome replied a
 
 abbrev pub act : Call → history.Call
-act (call.Start w h) = history.start w h
+act (call.Start s) = history.start s.width s.height
 act (call.Layer s l o) = history.edit s (sheets.layer l o)
 act (call.Frisket s p a b) = history.edit s (sheets.frisket p a b)
 act call.Undo = history.undo

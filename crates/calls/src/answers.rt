@@ -1,24 +1,16 @@
 // What calls are answered.
-use crate::asked::Point;
 use crate::refusals::Refusal;
+use crate::shapes::{Corners, Size};
 use ink::Dot;
 
-// The width and the height of a sheet.
-#[derive(Clone, Copy)]
-pub struct Size {
-    pub width: u16,
-    pub height: u16,
-}
+// What a call was answered, or why it was refused, and nothing was altered.
+pub type Answer = Result<Reply, Refusal>;
 
-// A rectangle, by its corners at the top left and the bottom right, both included.
-pub type Corners = (Point, Point);
-
+// The answer of a call that was not refused.
 #[derive(Clone, Copy)]
-pub enum Answer {
+pub enum Reply {
     // it was done
     Done,
-    // it was refused, and nothing was altered
-    Refused(Refusal),
     // the size of the sheet
     Size(Size),
     // the head, or how many blocks are left, or how many dots are inked

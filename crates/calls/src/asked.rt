@@ -1,22 +1,18 @@
 // The calls, with their arguments.
 
-// A column and a row, counted from 0 at the top left; it need not lie on the sheet.
-pub type Point = (u16, u16);
+use crate::shapes::{Point, Size};
 
-#[derive(Clone, Copy)]
+#[derive(Clone, Copy, PartialEq, Eq, Debug)]
 pub enum Call {
-    // a blank sheet of that width and height
-    Start {
-        width: u16,
-        height: u16,
-    },
+    // a blank sheet of that size
+    Start(Size),
     // writes a layer's record; the snapshot made gets the number
     Layer {
         number: u8,
         layer: u8,
         opacity: u8,
     },
-    // sets or clears the protection of a rectangle
+    // sets or clears the protection of the rectangle of two opposite corners, in any order
     Frisket {
         number: u8,
         protects: bool,

@@ -4,7 +4,9 @@
 mod answers;
 mod asked;
 mod refusals;
+mod shapes;
 
-pub use answers::{Answer, Corners, Size};
-pub use asked::{Call, Point};
+pub use answers::{Answer, Reply};
+pub use asked::Call;
 pub use refusals::Refusal;
+pub use shapes::{Corners, Point, Size};

@@ -4,7 +4,7 @@ ghost use Rattle.calls.specs.Refusals.{number_of};
 ghost use Rattle.calls.specs.declared.refusals.Refusal.TheVariants.{NoBlocks};
 
 // A refused call alters no sheet, no head and no block.
-#[derive(Clone, Copy)]
+#[derive(Clone, Copy, PartialEq, Eq, Debug)]
 pub enum Refusal {
     // there is no sheet yet
     NotStarted,

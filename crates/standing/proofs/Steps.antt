@@ -9,7 +9,7 @@ use Rattle.history.specs.Calls.{Call, Answer, refused, grounds, refusal, reply, 
 use Rattle.history.proofs.Sounds.{same_sound}
 use Rattle.root.specs.Sheets.{places}
 use Rattle.bridge.proofs.Counts.{live_low}
-use Rattle.calls.specs.declared.answers.Size.{Size}
+use Rattle.calls.specs.declared.shapes.Size.{Size}
 use Rattle.standing.specs.States.{State, root_of, verdict}
 use Rattle.standing.specs.Standing.{Kept, Sized}
 use Rattle.standing.proofs.Grounds.{here, past, none_first}

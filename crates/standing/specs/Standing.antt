@@ -14,7 +14,7 @@ use Rattle.history.specs.Laws.{SoundHistory}
 use Rattle.root.specs.Sheets.{places}
 use Rattle.bridge.specs.Shows.{Shows, last_edits}
 use Rattle.calls.specs.Told.{maybe}
-use Rattle.calls.specs.declared.answers.Size.{Size}
+use Rattle.calls.specs.declared.shapes.Size.{Size}
 use Rattle.table.specs.Tables.{parent_at}
 use Rattle.standing.specs.States.{State, root_of}
 

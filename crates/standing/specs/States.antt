@@ -14,7 +14,7 @@ use Rattle.rules.specs.Refusals.{Ground, first, numbers}
 use Rattle.forest.specs.Trees.{child, lookup}
 use Rattle.calls.specs.Refusals.{numbers_of}
 use Rattle.calls.specs.declared.refusals.Refusal.{Refusal}
-use Rattle.calls.specs.declared.answers.Size.{Size}
+use Rattle.calls.specs.declared.shapes.Size.{Size}
 use Rattle.table.specs.Tables.{at}
 use Rattle.table.specs.declared.records.Snapshot.{Snapshot}
 
