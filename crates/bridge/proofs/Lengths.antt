@@ -1,6 +1,6 @@
 -- The length of a list without repetitions, as a sum over all that could be on it.
 use Rattle.std.proofs.Common.{◌≡◌, ℕ, suc, ◌+◌, ◌-◌, ◌^◌, ◌<◌, Bool, true, false, ◌||◌, T, eqb, List, [], ◌∷◌, length, sym, refl, ap, ◌∙◌, subst, zero-add, arith, eqb→eq}
-use lib.Dec.{eqb_refl}
+use Rattle.std.proofs.Math.Dec.{eqb_refl}
 use Rattle.block.specs.Blocks.{sum_to}
 use Rattle.block.proofs.Sums.{sum_same, sum_none}
 use Rattle.forest.proofs.Sums.{some_part}

@@ -1,8 +1,8 @@
 -- The blocks that a rebuild needs are those that the history says.
 use Rattle.std.proofs.Common.{◌≡◌, ℕ, suc, ◌+◌, ◌-◌, ◌*◌, ◌/◌, ◌%◌, ◌^◌, ◌<◌, ◌≤◌, Bool, false, cond, not, T, eqb, sym, ap, ◌∙◌, subst, mod-lt, div-add-mod', arith, eqb→eq, T_not, eq-eqb, ne_eqb}
-use native.Mathlib.Decide.{ℕ_discrete}
-use native.Mathlib.Nat.{one-le-pow, mul-add-div_right, div-eq_of_lt}
-use lib.Dec.{eqb_refl, not_T}
+use Rattle.std.proofs.Math.Decide.{ℕ_discrete}
+use Rattle.std.proofs.Math.Nat.{one-le-pow, mul-add-div_right, div-eq_of_lt}
+use Rattle.std.proofs.Math.Dec.{eqb_refl, not_T}
 use Rattle.forest.specs.Plans.{any_to}
 use Rattle.count.specs.Tally.{bit, all_stretches}
 use Rattle.count.proofs.Sums.{any_some, any_at}

@@ -1,6 +1,6 @@
 -- What the store shows, after each change.
 use Rattle.std.proofs.Common.{◌≡◌, ℕ, zero, suc, ◌+◌, ◌-◌, ◌*◌, ◌/◌, ◌%◌, ◌^◌, ◌<◌, Bool, false, cond, eqb, sym, refl, ap, ◌∙◌, subst, mul-le-mul_right, suc-mul, arith, pow-add, eq-eqb, ne_eqb}
-use native.Mathlib.Decide.{ℕ_discrete}
+use Rattle.std.proofs.Math.Decide.{ℕ_discrete}
 use Rattle.block.specs.Blocks.{Blocks, Whole}
 use Rattle.forest.specs.Trees.{child, digits}
 use Rattle.forest.specs.Balance.{node}

@@ -4,28 +4,22 @@
 ghost use Rattle.count.specs.Laws.{AllFree, AllReached, BlocksCounted, CountTheorem, NeedCounted, NeverTooMany, NewBesideOld, OthersStay, RoomTold};
 
 // A balanced store: holders are few, every block is reached, and where nothing is held all are free.
-pub fn balance_tells() -> u8
+pub fn balance_tells()
     ensures few { NeverTooMany }
     ensures reached { AllReached }
     ensures free { AllFree }
-{
-    0
-}
+{}
 
 // What one snapshot does to the others: nothing.
-pub fn snapshots_apart() -> u8
+pub fn snapshots_apart()
     ensures gone { OthersStay }
     ensures made { NewBesideOld }
-{
-    0
-}
+{}
 
 // How many blocks an edit needs, how many are out, and when an edit finds what it needs.
-pub fn blocks_counted() -> u8
+pub fn blocks_counted()
     ensures need { NeedCounted }
     ensures shared { BlocksCounted }
     ensures count { CountTheorem }
     ensures room { RoomTold }
-{
-    0
-}
+{}

@@ -1,7 +1,7 @@
 -- What holds of every snapshot, and the snapshot that is found by its number.
 use Rattle.std.proofs.Common.{◌≡◌, ℕ, Bool, true, false, cond, ◌||◌, T, eqb, List, [], ◌∷◌, ◌++◌, map, sym, refl, ap, ◌∙◌, subst, ⊎_elim, eqb→eq}
 use Rattle.std.specs.List.{AllByRecursion}
-use lib.Dec.{eqb_refl}
+use Rattle.std.proofs.Math.Dec.{eqb_refl}
 use Rattle.rules.specs.Lists.{any, Once}
 use Rattle.rules.proofs.Tests.{or_left, or_right, or_either, is_false}
 use Rattle.rules.proofs.Members.{any_append}

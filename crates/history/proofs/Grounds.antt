@@ -1,6 +1,6 @@
 -- What a call that is not refused tells: each of its grounds fails.
 use Rattle.std.proofs.Common.{◌≡◌, ℕ, ◌<◌, Bool, true, false, cond, not, ◌||◌, T, ltb, List, [], ◌∷◌, ◌++◌, refl, subst, arith, ltb-false}
-use mathlib.Core.Option.{none, some}
+use Rattle.std.proofs.Math.Option.{none, some}
 use Rattle.rules.specs.Sheets.{Edit, stroke, fill, frisket, layer}
 use Rattle.rules.specs.DrawLaws.{Layered}
 use Rattle.rules.specs.Refusals.{Ground, first}

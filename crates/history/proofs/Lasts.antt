@@ -1,6 +1,6 @@
 -- The marks of a line are each stretch with the edit that was the last to change a cell of it.
 use Rattle.std.proofs.Common.{◌≡◌, ℕ, zero, suc, ◌≤◌, Bool, true, false, cond, not, ◌&&◌, ◌||◌, T, eqb, List, [], ◌∷◌, ◌++◌, map, sym, refl, ap, ◌∙◌, subst, ap₂, ⊎_elim, arith, eqb→eq, T_not, ne_eqb}
-use lib.Dec.{eqb_refl, not_T}
+use Rattle.std.proofs.Math.Dec.{eqb_refl, not_T}
 use Rattle.rules.specs.Lists.{any, keep}
 use Rattle.rules.specs.Sheets.{Sheet, draw, drawn_on, blank_sheet}
 use Rattle.rules.specs.Stretches.{Stretch, same_stretch, touched, touches}

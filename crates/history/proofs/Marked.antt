@@ -1,6 +1,6 @@
 -- Marks, and the marks of one edit.
 use Rattle.std.proofs.Common.{◌≡◌, ℕ, T, eqb, List, [], ◌∷◌, map, ⊎_elim, eqb→eq}
-use lib.Dec.{eqb_refl}
+use Rattle.std.proofs.Math.Dec.{eqb_refl}
 use Rattle.rules.specs.Lists.{any, Once}
 use Rattle.rules.specs.Stretches.{Stretch, same_stretch}
 use Rattle.rules.proofs.Tests.{and_both, and_left, and_right, or_left, or_right, or_either}

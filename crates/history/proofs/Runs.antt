@@ -1,8 +1,8 @@
 -- What holds of every list of calls.
 use Rattle.std.proofs.Common.{◌≡◌, ℕ, suc, ◌+◌, Bool, true, false, cond, not, T, eqb, List, [], ◌∷◌, ◌++◌, map, length, sym, refl, ap, ◌∙◌, subst, ⊎_elim, append_assoc, append-nil, add-zero, add-suc, suc-add, zero-add, arith, eqb→eq, length-append, ltb-false}
-use mathlib.Core.Option.{Option, none, some}
+use Rattle.std.proofs.Math.Option.{Option, none, some}
 use Rattle.std.specs.List.{AllByRecursion}
-use lib.Dec.{eqb_refl}
+use Rattle.std.proofs.Math.Dec.{eqb_refl}
 use Rattle.rules.specs.Lists.{any, keep, gather, Once}
 use Rattle.rules.specs.Refusals.{Refusal, no_change, no_blocks}
 use Rattle.rules.proofs.Tests.{or_left, or_right, is_true, is_false}

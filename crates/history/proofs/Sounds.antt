@@ -1,9 +1,9 @@
 -- What holds of the history of every run.
 use Rattle.std.proofs.Common.{◌≡◌, ℕ, suc, ◌<◌, ◌≤◌, Bool, true, false, cond, not, ◌&&◌, ◌||◌, T, eqb, ltb, leb, List, [], ◌∷◌, ◌++◌, map, length, sym, refl, ap, ◌∙◌, subst, ⊎_elim, arith, eqb→eq, leb→le, ltb-false}
-use mathlib.Core.Option.{Option, none, some}
+use Rattle.std.proofs.Math.Option.{Option, none, some}
 use Rattle.std.proofs.lemmas.Bool.Decides.{eqb_tells}
 use Rattle.std.specs.List.{AllByRecursion}
-use lib.Dec.{eqb_refl, not_T}
+use Rattle.std.proofs.Math.Dec.{eqb_refl, not_T}
 use Rattle.rules.specs.Lists.{any, keep, gather, distinct, Once}
 use Rattle.rules.specs.Sheets.{Edit, blank_sheet}
 use Rattle.rules.specs.DrawLaws.{Layered}

@@ -1,7 +1,7 @@
 -- An edit raises the count by exactly its need.
 use Rattle.std.proofs.Common.{◌≡◌, ℕ, ◌<◌, Bool, true, false, cond, not, ◌||◌, T, eqb, ◌⊎◌, List, [], ◌∷◌, ◌++◌, map, length, sym, ap, ◌∙◌, subst, inl, inr, ⊎_elim, append_assoc, append-nil, arith, T_not, length-append}
-use lib.Dec.{not_T}
-use lib.ListN.{length-map}
+use Rattle.std.proofs.Math.Dec.{not_T}
+use Rattle.std.proofs.Math.ListN.{length-map}
 use Rattle.std.specs.List.{AllByRecursion}
 use Rattle.rules.specs.Lists.{any, keep, gather, distinct}
 use Rattle.rules.specs.Sheets.{Sheet, draw, drawn_on, tree_of, changed, blank_sheet}

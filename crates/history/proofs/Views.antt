@@ -1,6 +1,6 @@
 -- Headers and rows that are not refused fit.
 use Rattle.std.proofs.Common.{suc, not, ◌&&◌, eqb, ltb, leb, [], ◌∷◌, length, ap, ltb-false, leb-false}
-use mathlib.Core.Option.{Option, none, some}
+use Rattle.std.proofs.Math.Option.{Option, none, some}
 use Rattle.rules.specs.Refusals.{Refusal, bad_size, nowhere, short_buffer}
 use Rattle.history.specs.Calls.{of_snapshot}
 use Rattle.history.specs.Views.{View, header_of, next_row, row_grounds}

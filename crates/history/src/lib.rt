@@ -4,54 +4,40 @@
 ghost use Rattle.history.specs.Laws.{MarksMean, MarksLast, TakesNeed, RunsSound, RunsMade, RunsCounted, RunsTakeNeed, AnswersByHistory, RefusedKeeps, ViewsFit};
 
 // The marks of a line are exactly the last touches, and a place is marked where it is the last edit's.
-pub fn marks_mean() -> u8
+pub fn marks_mean()
     ensures touches { MarksMean }
     ensures last { MarksLast }
-{
-    0
-}
+{}
 
 // After every list of calls: numbers are unique, 0 and the head are live, parents are live and older,
 // the size is 1 to 256, the count does not pass the store's size, and every entry is the edit at its place.
-pub fn runs_sound() -> u8
+pub fn runs_sound()
     ensures sound { RunsSound }
     ensures made { RunsMade }
-{
-    0
-}
+{}
 
 // What is counted are the live snapshots and, each once, the stretches of live lines with their last edits.
-pub fn runs_counted() -> u8
+pub fn runs_counted()
     ensures { RunsCounted }
-{
-    0
-}
+{}
 
 // An edit raises the count by exactly its need.
-pub fn takes_need() -> u8
+pub fn takes_need()
     ensures { TakesNeed }
-{
-    0
-}
+{}
 
 // Over every run an accepted edit takes exactly its need of what is left.
-pub fn runs_take_need() -> u8
+pub fn runs_take_need()
     ensures { RunsTakeNeed }
-{
-    0
-}
+{}
 
 // Each answer depends only on the calls before it, and a refused call leaves the history unaltered.
-pub fn answers_by_history() -> u8
+pub fn answers_by_history()
     ensures before { AnswersByHistory }
     ensures refused { RefusedKeeps }
-{
-    0
-}
+{}
 
 // Headers and rows fit the buffers that they are not refused for.
-pub fn views_fit() -> u8
+pub fn views_fit()
     ensures { ViewsFit }
-{
-    0
-}
+{}

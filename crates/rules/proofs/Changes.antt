@@ -1,9 +1,9 @@
 -- Which cells an edit changes.
 use Rattle.std.proofs.Common.{◌≡◌, ℕ, suc, ◌+◌, ◌*◌, ◌/◌, ◌%◌, ◌^◌, ◌<◌, ◌≤◌, Bool, true, false, not, ◌&&◌, T, eqb, ltb, ◌⊎◌, map, sym, refl, ap, ◌∙◌, subst, inl, inr, ⊎_elim, zero-le, zero-add, arith, eqb→eq, ltb→lt, T_not}
-use mathlib.Core.Path.{fun_ext}
+use Rattle.std.proofs.Math.Path.{fun_ext}
 use Rattle.std.proofs.lemmas.Bool.{ne_eqb}
 use Rattle.std.proofs.lemmas.Bool.Decides.{eqb_tells, leb_tells}
-use lib.Dec.{eqb_refl, not_T}
+use Rattle.std.proofs.Math.Dec.{eqb_refl, not_T}
 use Rattle.rules.specs.Lists.{any, below, row_of, gather}
 use Rattle.rules.specs.Cells.{dot_word, dot_column, dot_row, dot_index, strip_word, strip_at, record_word, depth, cells_on}
 use Rattle.rules.specs.Lines.{on_sheet}

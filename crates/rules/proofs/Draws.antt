@@ -1,9 +1,9 @@
 -- What drawing keeps.
 use Rattle.std.proofs.Common.{◌≡◌, ℕ, Bool, true, false, cond, not, ◌&&◌, T, eqb, List, [], ◌∷◌, refl, arith}
-use mathlib.Core.Option.{Option, none, some}
+use Rattle.std.proofs.Math.Option.{Option, none, some}
 use Rattle.std.specs.List.{AllByRecursion}
 use Rattle.std.proofs.lemmas.Bool.{ne_eqb}
-use lib.Dec.{eqb_refl}
+use Rattle.std.proofs.Math.Dec.{eqb_refl}
 use Rattle.rules.specs.Dots.{Dot, Sound, blank, over, laid, faded, same_dot}
 use Rattle.rules.specs.Lines.{Point, on_sheet, covers, in_rectangle, in_square, trail}
 use Rattle.rules.specs.Lists.{any, below}

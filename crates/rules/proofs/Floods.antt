@@ -1,7 +1,7 @@
 -- The rounds of a fill find what is reached by steps, and nothing else.
 use Rattle.std.proofs.Common.{◌≡◌, ℕ, zero, suc, ◌+◌, ◌*◌, ◌<◌, Bool, ◌&&◌, ◌||◌, T, eqb, ltb, ◌⊎◌, List, [], ◌∷◌, length, sym, ap, ◌∙◌, subst, subst₂, inl, inr, ⊎_elim, arith, eqb→eq, ltb→lt}
 use Rattle.std.proofs.lemmas.Bool.Decides.{eqb_tells}
-use lib.Dec.{eqb_refl}
+use Rattle.std.proofs.Math.Dec.{eqb_refl}
 use Rattle.rules.specs.Lists.{keep, apart}
 use Rattle.rules.specs.Lines.{Point, on_sheet}
 use Rattle.rules.specs.Reach.{Reach, here, right, left, up, down, listed, beside, points_on, next_round, rounds, reached}

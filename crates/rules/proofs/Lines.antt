@@ -1,7 +1,7 @@
 -- Lines go from their start to their end, one step at a time.
 use Rattle.std.proofs.Common.{◌≡◌, ℕ, suc, ◌+◌, ◌-◌, ◌*◌, ◌/◌, ◌<◌, ◌≤◌, Bool, true, false, cond, eqb, leb, refl, ap, ◌∙◌, add-mul, le-div_iff_mul-le, zero-mul, div-mul-le_self, arith, eqb-true, leb-false, leb-true}
-use native.Mathlib.Nat.{mul-add-div, div-eq_of_lt, add-div_right}
-use borrow.Author.Tests.{eqb-false}
+use Rattle.std.proofs.Math.Nat.{mul-add-div, div-eq_of_lt, add-div_right}
+use Rattle.std.proofs.lemmas.Bool.{eqb-false}
 use Rattle.rules.specs.Lists.{apart}
 use Rattle.rules.specs.Lines.{Point, steps, moved}
 use Rattle.rules.specs.LineLaws.{LineEnds, LineConnects}

@@ -1,9 +1,9 @@
 -- What is on a list.
 use Rattle.std.proofs.Common.{◌≡◌, ℕ, zero, suc, ◌+◌, ◌*◌, ◌<◌, ◌≤◌, Bool, true, false, cond, ◌&&◌, ◌||◌, T, eqb, ◌⊎◌, List, [], ◌∷◌, ◌++◌, map, length, sym, refl, ap, ◌∙◌, subst, ap₂, inl, inr, ⊎_elim, add-zero, suc-mul, mul_comm, add_comm, zero-mul, arith, eqb→eq, length-append}
-use mathlib.Core.Path.{fun_ext}
+use Rattle.std.proofs.Math.Path.{fun_ext}
 use Rattle.std.proofs.lemmas.Bool.Decides.{eqb_tells}
-use lib.Dec.{eqb_refl}
-use lib.ListN.{length-map}
+use Rattle.std.proofs.Math.Dec.{eqb_refl}
+use Rattle.std.proofs.Math.ListN.{length-map}
 use Rattle.rules.specs.Lists.{any, keep, gather, row_of, below}
 use Rattle.rules.specs.Lines.{Point}
 use Rattle.rules.specs.Reach.{listed, points_on}

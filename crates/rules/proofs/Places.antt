@@ -1,6 +1,6 @@
 -- Indices of dots and strips, and the columns and rows that they stand for.
 use Rattle.std.proofs.Common.{◌≡◌, ℕ, zero, suc, ◌+◌, ◌*◌, ◌/◌, ◌%◌, ◌^◌, ◌<◌, ◌≤◌, map, sym, refl, ap, ◌∙◌, subst, ap₂, add-zero, mod-lt, mod-eq_of_lt, mul_assoc, mul_comm, div-lt_iff_lt-mul, add_comm, mul-le-mul_left, one-mul, pow-suc, mul-zero, div-add-mod', mul-suc, mul-add, div-one, arith}
-use native.Mathlib.Nat.{div-div-eq-div-mul, div-eq_of_lt, mul-add-div, mul-add-mod_self_left, pow-zero, pow-succ'}
+use Rattle.std.proofs.Math.Nat.{div-div-eq-div-mul, div-eq_of_lt, mul-add-div, mul-add-mod_self_left, pow-zero, pow-succ'}
 use Rattle.rules.specs.Lists.{total, row_of}
 use Rattle.rules.specs.Cells.{dot_index, dot_column, dot_row, digit, strip_index}
 use Rattle.rules.specs.CellLaws.{DotsPlaced, StripsPlaced}

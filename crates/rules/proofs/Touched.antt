@@ -1,9 +1,9 @@
 -- The stretches that are counted for an edit are those of which it changes a cell.
 use Rattle.std.proofs.Common.{◌≡◌, ℕ, zero, suc, ◌+◌, ◌-◌, ◌*◌, ◌/◌, ◌^◌, ◌<◌, ◌≤◌, Bool, true, false, not, ◌&&◌, T, eqb, ltb, map, sym, refl, ap, ◌∙◌, subst, ⊎_elim, div-lt_iff_lt-mul, arith, eqb→eq, pow-add}
-use native.Mathlib.Nat.{one-le-pow}
+use Rattle.std.proofs.Math.Nat.{one-le-pow}
 use Rattle.std.proofs.lemmas.Bool.{cases_eq}
 use Rattle.std.proofs.lemmas.Bool.Decides.{nat_tests}
-use lib.Dec.{eqb_refl}
+use Rattle.std.proofs.Math.Dec.{eqb_refl}
 use Rattle.rules.specs.Lists.{any, gather, row_of, below}
 use Rattle.rules.specs.Cells.{depth, cells_on, dot_index}
 use Rattle.rules.specs.Sheets.{Sheet, Edit, stroke, fill, frisket, layer, draw, tree_of, changed, word_of}

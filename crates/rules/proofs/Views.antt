@@ -1,7 +1,7 @@
 -- The bytes of views.
 use Rattle.std.proofs.Common.{◌≡◌, ℕ, ◌+◌, ◌*◌, ◌/◌, ◌%◌, ◌<◌, ◌≤◌, Bool, true, false, cond, ltb, List, [], ◌∷◌, ◌++◌, map, get_or, refl, ap, ◌∙◌, mul_comm, arith, ltb-false, ltb-true}
 use Rattle.std.specs.List.{AllByRecursion}
-use lib.ListN.{length-map}
+use Rattle.std.proofs.Math.ListN.{length-map}
 use Rattle.rules.specs.Lists.{below, gather}
 use Rattle.rules.specs.Dots.{Dot, Sound}
 use Rattle.rules.specs.Pictures.{flat_dot}

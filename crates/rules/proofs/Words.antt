@@ -1,6 +1,6 @@
 -- Cells and their words.
 use Rattle.std.proofs.Common.{◌≡◌, ℕ, ◌+◌, ◌-◌, cond, refl, ap, ◌∙◌, arith}
-use mathlib.Core.Option.{Option, none, some}
+use Rattle.std.proofs.Math.Option.{Option, none, some}
 use Rattle.std.proofs.lemmas.Bool.{ne_eqb}
 use Rattle.rules.specs.Dots.{Dot, Sound}
 use Rattle.rules.specs.Cells.{dot_word, word_dot, record_word, word_record}

@@ -8,98 +8,74 @@ ghost use Rattle.rules.specs.DrawLaws.{RoundsReach, FillReaches, ProtectedKept, 
 ghost use Rattle.rules.specs.ViewLaws.{DecimalsSpell, RowLengths, RowsBytes, MaskBits};
 
 // Blank ink leaves every dot unaltered, and is blank at every opacity.
-pub fn blank_keeps() -> u8
+pub fn blank_keeps()
     ensures keeps { BlankKeeps }
     ensures fades { BlankFades }
-{
-    0
-}
+{}
 
 // Laying ink and fading keep colours within alpha, and alpha a byte; so are the colours on paper.
-pub fn inks_sound() -> u8
+pub fn inks_sound()
     ensures laid { LaidSound }
     ensures faded { FadedSound }
     ensures paper { PaperByte }
-{
-    0
-}
+{}
 
 // Cells can be had back from their words, and blank cells pack to 0.
-pub fn cells_pack() -> u8
+pub fn cells_pack()
     ensures dots { DotsPack }
     ensures strips { StripsPack }
     ensures records { RecordsPack }
-{
-    0
-}
+{}
 
 // An index and the coordinates that it stands for are inverse to each other.
-pub fn cells_placed() -> u8
+pub fn cells_placed()
     ensures dots { DotsPlaced }
     ensures strips { StripsPlaced }
-{
-    0
-}
+{}
 
 // A line goes from its start to its end, and from dot to dot no coordinate moves by more than 1.
-pub fn lines_connect() -> u8
+pub fn lines_connect()
     ensures ends { LineEnds }
     ensures steps { LineConnects }
-{
-    0
-}
+{}
 
 // What a fill reaches by steps is what is computed.
-pub fn rounds_reach() -> u8
+pub fn rounds_reach()
     ensures { RoundsReach }
-{
-    0
-}
+{}
 
 // A fill sets what it reaches, and nothing else.
-pub fn fill_reaches() -> u8
+pub fn fill_reaches()
     ensures { FillReaches }
-{
-    0
-}
+{}
 
 // What the frisket protects, no edit alters.
-pub fn frisket_protects() -> u8
+pub fn frisket_protects()
     ensures { ProtectedKept }
-{
-    0
-}
+{}
 
 // On a drawn sheet no dot has a colour above its alpha, and nothing stands off the sheet.
-pub fn drawn_sheets() -> u8
+pub fn drawn_sheets()
     ensures sound { DrawnSound }
     ensures flat { FlatSound }
     ensures inside { DrawnInside }
-{
-    0
-}
+{}
 
 // The cells and stretches that are counted are those that differ after the edit.
-pub fn changes_counted() -> u8
+pub fn changes_counted()
     ensures cells { ChangedMeans }
     ensures stretches { TouchedMeans }
-{
-    0
-}
+{}
 
 // A layer's box is the smallest rectangle round its inked dots.
-pub fn box_smallest() -> u8
+pub fn box_smallest()
     ensures { BoxSmallest }
-{
-    0
-}
+{}
 
 // Sizes are spelt in decimal; rows have the length and the bytes that their format asks for.
-pub fn view_bytes() -> u8
+pub fn view_bytes()
     ensures decimals { DecimalsSpell }
     ensures lengths { RowLengths }
     ensures bytes { RowsBytes }
     ensures bits { MaskBits }
-{
-    0
-}
+{}
