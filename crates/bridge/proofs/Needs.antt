@@ -3,10 +3,10 @@ use Rattle.std.proofs.Common.{◌≡◌, ℕ, suc, ◌+◌, ◌-◌, ◌*◌, �
 use Rattle.std.proofs.Math.Decide.{ℕ_discrete}
 use Rattle.std.proofs.Math.Nat.{one-le-pow, mul-add-div_right, div-eq_of_lt}
 use Rattle.std.proofs.Math.Dec.{eqb_refl, not_T}
+use Rattle.std.specs.List.{flat_map}
 use Rattle.forest.specs.Plans.{any_to}
 use Rattle.count.specs.Tally.{bit, all_stretches}
 use Rattle.count.proofs.Sums.{any_some, any_at}
-use Rattle.rules.specs.Lists.{gather}
 use Rattle.rules.specs.Cells.{depth}
 use Rattle.rules.specs.Sheets.{Sheet, Edit, draw, tree_of, changed, word_of}
 use Rattle.rules.specs.Stretches.{same_stretch, stretches_of, touched, touches, need, Proper}
@@ -27,7 +27,7 @@ quotient_back q b i l = sym (mul-add-div_right {m = b} (omega arith) q i ∙ ap 
 -- the need, over all stretches
 pub need_sum : (w h : ℕ) (e : Edit) (s : Sheet) → w ≤ 256 → h ≤ 256 → Layered e → need w h e s ≡ suc (all_stretches depth (λ t k q. bit (touches w h e s (stretch t (suc k) q))))
 need_sum w h e s a b layered =
-    omega (arith, stretch_length (touched w h e s) (distinct_once same_stretch stretch_self stretch_tells (gather (stretches_of (tree_of e)) (changed w h e s))) (λ q t. (touched_proper w h e s q a b layered t).1))
+    omega (arith, stretch_length (touched w h e s) (distinct_once same_stretch stretch_self stretch_tells (flat_map (stretches_of (tree_of e)) (changed w h e s))) (λ q t. (touched_proper w h e s q a b layered t).1))
 
 -- what a plan alters is what the edit touches
 pub alters_touches : (w h : ℕ) (e : Edit) (s : Sheet) (new : ℕ → ℕ → ℕ) → w ≤ 256 → h ≤ 256 → Layered e → OffSheet w h s → Draws w h e s new

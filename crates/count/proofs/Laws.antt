@@ -1,12 +1,12 @@
 -- The theorems on balanced stores and tables, put together.
 use Rattle.std.proofs.Common.{◌≡◌, ℕ, suc, ◌+◌, ◌-◌, ◌*◌, ◌^◌, ◌<◌, ◌≤◌, leb, Ok, sym, ap, ◌∙◌, subst, mul-le-mul_right, suc-mul, arith, pow-add, ne_eqb}
 use Rattle.std.proofs.lemmas.Bool.{lt-leb}
+use Rattle.std.proofs.Math.Decide.{ℕ_discrete}
 use Rattle.block.specs.Blocks.{Blocks}
 use Rattle.block.specs.Calls.{refused_if}
 use Rattle.block.proofs.Sums.{sum_same}
 use Rattle.forest.specs.Trees.{lookup}
 use Rattle.forest.specs.Balance.{hit, Label}
-use Rattle.std.proofs.Math.Decide.{ℕ_discrete}
 use Rattle.block.proofs.Wholes.{out_below}
 use Rattle.forest.proofs.Sums.{some_part}
 use Rattle.forest.proofs.Balances.{hit_pointer}

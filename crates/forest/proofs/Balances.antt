@@ -4,12 +4,12 @@ use Rattle.std.proofs.Math.Path.{fun_ext}
 use Rattle.std.proofs.Math.Decide.{ℕ_discrete, dec_lt}
 use Rattle.std.proofs.lemmas.Bool.Decides.{nat_tests}
 use Rattle.std.proofs.lemmas.Bool.{cond_both, eqb-true, eqb-false}
+use Rattle.std.specs.List.{range_with_len}
 use Rattle.block.specs.Blocks.{Blocks, sum_to}
 use Rattle.block.specs.Calls.{released}
 use Rattle.forest.specs.Balance.{hit, hold, Label, root, node, below, leads, from, Points, Balanced}
 use Rattle.forest.specs.Trees.{child, words, let_go}
 use Rattle.forest.proofs.Releases.{released_flat, released_null, released_step}
-use Rattle.std.specs.List.{range_with_len}
 use Rattle.block.proofs.Sums.{sum_same, sum_at, sum_none}
 use Rattle.block.proofs.Wholes.{released_whole}
 

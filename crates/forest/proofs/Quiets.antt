@@ -1,9 +1,9 @@
 -- Where a plan changes nothing.
 use Rattle.std.proofs.Common.{◌≡◌, ℕ, zero, suc, ◌+◌, ◌*◌, ◌/◌, ◌^◌, ◌<◌, ◌≤◌, Bool, false, not, ◌||◌, ◌≢◌, List, [], ◌∷◌, length, sym, refl, ap, ◌∙◌, subst, mul-le-mul_right, mul_assoc, arith, eq-eqb, ne_eqb}
 use Rattle.std.proofs.Math.Nat.{div-eq_of_lt-le}
-use Rattle.forest.proofs.Digits.{power_suc}
 use Rattle.std.specs.List.{AllByRecursion}
 use Rattle.std.proofs.lemmas.Bool.{cond-false}
+use Rattle.forest.proofs.Digits.{power_suc}
 use Rattle.block.specs.Blocks.{Blocks}
 use Rattle.forest.specs.Trees.{child, look}
 use Rattle.forest.specs.Frames.{Live}

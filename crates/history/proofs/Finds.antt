@@ -1,10 +1,10 @@
 -- What holds of every snapshot, and the snapshot that is found by its number.
 use Rattle.std.proofs.Common.{◌≡◌, ℕ, Bool, true, false, cond, ◌||◌, T, eqb, List, [], ◌∷◌, ◌++◌, map, sym, refl, ap, ◌∙◌, subst, ⊎_elim, eqb→eq}
-use Rattle.std.specs.List.{AllByRecursion}
+use Rattle.std.specs.List.{AllByRecursion, list_any}
 use Rattle.std.proofs.Math.Dec.{eqb_refl}
-use Rattle.rules.specs.Lists.{any, Once}
+use Rattle.std.proofs.lemmas.List.Folds.{list_any-append}
+use Rattle.rules.specs.Lists.{Once}
 use Rattle.rules.proofs.Tests.{or_left, or_right, or_either, is_false}
-use Rattle.rules.proofs.Members.{any_append}
 use Rattle.history.specs.Histories.{Snapshot, find}
 
 pub all_mono : {A : Type 0} {P Q : A → Type 0} → ((x : A) → P x → Q x) → (xs : List A) → AllByRecursion P xs → AllByRecursion Q xs
@@ -26,19 +26,19 @@ eqb_sym a b = same_truth (eqb a b) (eqb b a) (λ t. rw (eqb→eq a b t) (eqb_ref
 
 -- the number s is that of one of the snapshots
 abbrev pub Among : ℕ → List Snapshot → Type 0
-Among s ps = T (any (λ p. eqb p.number s) ps)
+Among s ps = T (list_any (λ p. eqb p.number s) ps)
 
 -- a number is on the list of numbers when a snapshot has it
-pub among_numbers : (s : ℕ) (ps : List Snapshot) → any (eqb s) (map (λ p. p.number) ps) ≡ any (λ p. eqb p.number s) ps
+pub among_numbers : (s : ℕ) (ps : List Snapshot) → list_any (eqb s) (map (λ p. p.number) ps) ≡ list_any (λ p. eqb p.number s) ps
 among_numbers s [] = refl
-among_numbers s (p ∷ ps) = ap (λ b. b || any (eqb s) (map (λ p. p.number) ps)) (eqb_sym s p.number) ∙ ap (λ b. eqb p.number s || b) (among_numbers s ps)
+among_numbers s (p ∷ ps) = ap (λ b. b || list_any (eqb s) (map (λ p. p.number) ps)) (eqb_sym s p.number) ∙ ap (λ b. eqb p.number s || b) (among_numbers s ps)
 
 -- the snapshot found, where there is one: what holds of each holds of it, and it has the number
 pub found_all : (P : Snapshot → Type 0) (other : Snapshot) (s : ℕ) (ps : List Snapshot) → AllByRecursion P ps → Among s ps → P (find other s ps)
 found_all P other s [] a l = absurd l
 found_all P other s (p ∷ ps) a l = go (found_all P other s ps a.1) (eqb p.number s) l
   where
-    go : (Among s ps → P (find other s ps)) → (c : Bool) → T (c || any (λ p. eqb p.number s) ps) → P (cond c p (find other s ps))
+    go : (Among s ps → P (find other s ps)) → (c : Bool) → T (c || list_any (λ p. eqb p.number s) ps) → P (cond c p (find other s ps))
     go ih true k = a.0
     go ih false k = ih k
 
@@ -46,7 +46,7 @@ pub found_number : (other : Snapshot) (s : ℕ) (ps : List Snapshot) → Among s
 found_number other s [] l = absurd l
 found_number other s (p ∷ ps) l = go (found_number other s ps) (eqb p.number s) refl l
   where
-    go : (Among s ps → (find other s ps).number ≡ s) → (c : Bool) → eqb p.number s ≡ c → T (c || any (λ p. eqb p.number s) ps) → (cond c p (find other s ps)).number ≡ s
+    go : (Among s ps → (find other s ps).number ≡ s) → (c : Bool) → eqb p.number s ≡ c → T (c || list_any (λ p. eqb p.number s) ps) → (cond c p (find other s ps)).number ≡ s
     go ih true e k = eqb→eq p.number s (rw e tt)
     go ih false e k = ih k
 
@@ -64,7 +64,7 @@ pub find_still : (other new : Snapshot) (q : ℕ) (ps : List Snapshot) → Among
 find_still other new q [] t = absurd t
 find_still other new q (p ∷ ps) t = go (find_still other new q ps) (eqb p.number q) t
   where
-    go : (Among q ps → find other q (ps ++ (new ∷ [])) ≡ find other q ps) → (b : Bool) → T (b || any (λ p. eqb p.number q) ps) → cond b p (find other q (ps ++ (new ∷ []))) ≡ cond b p (find other q ps)
+    go : (Among q ps → find other q (ps ++ (new ∷ [])) ≡ find other q ps) → (b : Bool) → T (b || list_any (λ p. eqb p.number q) ps) → cond b p (find other q (ps ++ (new ∷ []))) ≡ cond b p (find other q ps)
     go ih true u = refl
     go ih false u = ih u
 
@@ -72,24 +72,24 @@ pub find_else : (other new : Snapshot) (q : ℕ) (ps : List Snapshot) → eqb ne
 find_else other new q [] e = ap (λ c. cond c new other) e
 find_else other new q (p ∷ ps) e = ap (cond (eqb p.number q) p) (find_else other new q ps e)
 
-pub find_new : (other new : Snapshot) (q : ℕ) (ps : List Snapshot) → any (λ p. eqb p.number q) ps ≡ false → eqb new.number q ≡ true → find other q (ps ++ (new ∷ [])) ≡ new
+pub find_new : (other new : Snapshot) (q : ℕ) (ps : List Snapshot) → list_any (λ p. eqb p.number q) ps ≡ false → eqb new.number q ≡ true → find other q (ps ++ (new ∷ [])) ≡ new
 find_new other new q [] a e = ap (λ c. cond c new other) e
 find_new other new q (p ∷ ps) a e = go (find_new other new q ps) (eqb p.number q) a
   where
-    go : (any (λ p. eqb p.number q) ps ≡ false → eqb new.number q ≡ true → find other q (ps ++ (new ∷ [])) ≡ new) → (b : Bool) → (b || any (λ p. eqb p.number q) ps) ≡ false → cond b p (find other q (ps ++ (new ∷ []))) ≡ new
+    go : (list_any (λ p. eqb p.number q) ps ≡ false → eqb new.number q ≡ true → find other q (ps ++ (new ∷ [])) ≡ new) → (b : Bool) → (b || list_any (λ p. eqb p.number q) ps) ≡ false → cond b p (find other q (ps ++ (new ∷ []))) ≡ new
     go ih true f = absurd (subst T f tt)
     go ih false f = ih f e
 
-pub once_push : (new : Snapshot) (ps : List Snapshot) → Once eqb (map (λ p. p.number) ps) → any (λ q. eqb q.number new.number) ps ≡ false → Once eqb (map (λ p. p.number) (ps ++ (new ∷ [])))
+pub once_push : (new : Snapshot) (ps : List Snapshot) → Once eqb (map (λ p. p.number) ps) → list_any (λ q. eqb q.number new.number) ps ≡ false → Once eqb (map (λ p. p.number) (ps ++ (new ∷ [])))
 once_push new [] o a = ((λ t. t), tt)
 once_push new (p ∷ ps) o a = (
   (λ t. ⊎_elim
       (λ u. o.0 (subst T (sym (among_numbers p.number ps)) u))
       (λ u. ⊎_elim
-      (λ v. subst T a (or_left (eqb p.number new.number) (any (λ q. eqb q.number new.number) ps) (subst (λ (z : ℕ). T (eqb p.number z)) (sym (eqb→eq new.number p.number v)) (eqb_refl p.number))))
+      (λ v. subst T a (or_left (eqb p.number new.number) (list_any (λ q. eqb q.number new.number) ps) (subst (λ (z : ℕ). T (eqb p.number z)) (sym (eqb→eq new.number p.number v)) (eqb_refl p.number))))
       (λ v. v)
       (or_either (eqb new.number p.number) false u))
-      (or_either (any (λ q. eqb q.number p.number) ps) (any (λ q. eqb q.number p.number) (new ∷ []))
-      (subst T (any_append (λ q. eqb q.number p.number) ps (new ∷ [])) (subst T (among_numbers p.number (ps ++ (new ∷ []))) t)))),
-  once_push new ps o.1 (is_false (any (λ q. eqb q.number new.number) ps) (λ t. subst T a (or_right (eqb p.number new.number) (any (λ q. eqb q.number new.number) ps) t))),
+      (or_either (list_any (λ q. eqb q.number p.number) ps) (list_any (λ q. eqb q.number p.number) (new ∷ []))
+      (subst T (list_any-append (λ q. eqb q.number p.number) ps (new ∷ [])) (subst T (among_numbers p.number (ps ++ (new ∷ []))) t)))),
+  once_push new ps o.1 (is_false (list_any (λ q. eqb q.number new.number) ps) (λ t. subst T a (or_right (eqb p.number new.number) (list_any (λ q. eqb q.number new.number) ps) t))),
 )

@@ -7,9 +7,6 @@ use Rattle.rules.specs.Refusals.{Ground, first}
 use Rattle.history.specs.Histories.{History, sheet_of}
 use Rattle.history.specs.Calls.{edit_grounds, layer_missing, has_record}
 
-some_none : {A : Type 0} (a : A) → some a ≡ none → ⊥
-some_none a e = let z : ◌≡◌ {A = ℕ} 0 1 = cc in omega arith
-
 -- every ground fails
 abbrev pub Fail : List Ground → Type 0
 Fail [] = Unit {0}
@@ -20,7 +17,7 @@ fail [] e = tt
 fail (g ∷ gs) e = go (fail gs) g.0 e
   where
     go : (first gs ≡ none → Fail gs) → (b : Bool) → cond b (some g.1) (first gs) ≡ none → (b ≡ false) × Fail gs
-    go ih true e = absurd (some_none g.1 e)
+    go ih true e = cc
     go ih false e = (refl, ih e)
 
 pub fail_front : (gs hs : List Ground) → Fail (gs ++ hs) → Fail gs
@@ -33,10 +30,10 @@ fail_back (g ∷ gs) hs f = fail_back gs hs f.1
 
 pub not_false : (b : Bool) → not b ≡ false → T b
 not_false true e = tt
-not_false false e = let z : ◌≡◌ {A = Bool} true false = e in subst T z tt
+not_false false e = cc
 
 pub or_false_left : (a b : Bool) → (a || b) ≡ false → a ≡ false
-or_false_left true b e = absurd (subst T e tt)
+or_false_left true b e = cc
 or_false_left false b e = refl
 
 pub or_false_right : (a b : Bool) → (a || b) ≡ false → b ≡ false

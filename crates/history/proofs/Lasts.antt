@@ -1,13 +1,15 @@
 -- The marks of a line are each stretch with the edit that was the last to change a cell of it.
 use Rattle.std.proofs.Common.{◌≡◌, ℕ, zero, suc, ◌≤◌, Bool, true, false, cond, not, ◌&&◌, ◌||◌, T, eqb, List, [], ◌∷◌, ◌++◌, map, sym, refl, ap, ◌∙◌, subst, ap₂, ⊎_elim, arith, eqb→eq, T_not, ne_eqb}
 use Rattle.std.proofs.Math.Dec.{eqb_refl, not_T}
-use Rattle.rules.specs.Lists.{any, keep}
+use Rattle.std.specs.List.{filter, list_any}
+use Rattle.std.proofs.lemmas.List.Folds.{list_any-append}
+use Rattle.std.proofs.Math.Facts.{yes_and}
+use Rattle.std.proofs.Math.Bool.{or-false}
 use Rattle.rules.specs.Sheets.{Sheet, draw, drawn_on, blank_sheet}
 use Rattle.rules.specs.Stretches.{Stretch, same_stretch, touched, touches}
 use Rattle.rules.specs.DrawLaws.{Layered, OffSheet}
-use Rattle.rules.proofs.Onces.{In, in_left, in_right, in_either, from_keep, to_keep}
-use Rattle.rules.proofs.Tests.{and_both, and_left, and_right}
-use Rattle.rules.proofs.Members.{any_append}
+use Rattle.rules.proofs.Onces.{In, in_left, in_right, in_either, from_filter, to_filter}
+use Rattle.rules.proofs.Tests.{and_left, and_right}
 use Rattle.rules.proofs.Draws.{drawn_inside}
 use Rattle.rules.proofs.Touched.{stretch_self, stretch_tells, touched_means}
 use Rattle.history.specs.Histories.{Entry, shown}
@@ -55,9 +57,9 @@ module _ (w h : ℕ) where
       → In same_mark m (marks w h (before ++ (e ∷ later)) s)
   to_marks [] e later s m p t none =
       in_left same_mark m (firsts w h e later s) (marks w h later (draw w h e.edit s))
-      (to_marked e.place m (keep (last w h later (draw w h e.edit s)) (touched w h e.edit s)) p
-      (to_keep same_stretch stretch_self stretch_tells (last w h later (draw w h e.edit s)) m.stretch (touched w h e.edit s) t
-      (not_T (any (same_stretch m.stretch) (touched_by w h later (draw w h e.edit s)))
+      (to_marked e.place m (filter (last w h later (draw w h e.edit s)) (touched w h e.edit s)) p
+      (to_filter same_stretch stretch_self stretch_tells (last w h later (draw w h e.edit s)) m.stretch (touched w h e.edit s) t
+      (not_T (list_any (same_stretch m.stretch) (touched_by w h later (draw w h e.edit s)))
       (λ u. let r = split later (draw w h e.edit s) m.stretch u in none r.before r.later r.entry r.stands r.hit))))
   to_marks (g ∷ before) e later s m p t none =
       in_right same_mark m (firsts w h g (before ++ (e ∷ later)) s) (marks w h (before ++ (e ∷ later)) (draw w h g.edit s)) (to_marks before e later (draw w h g.edit s) m p t none)
@@ -68,8 +70,8 @@ module _ (w h : ℕ) where
       let next = draw w h f.edit s in
       ⊎_elim
       (λ u.
-      let r = from_marked f.place m (keep (last w h es next) (touched w h f.edit s)) u in
-      let k = from_keep same_stretch stretch_self stretch_tells (last w h es next) m.stretch (touched w h f.edit s) r.1 in (
+      let r = from_marked f.place m (filter (last w h es next) (touched w h f.edit s)) u in
+      let k = from_filter same_stretch stretch_self stretch_tells (last w h es next) m.stretch (touched w h f.edit s) r.1 in (
         f,
         r.0,
         record {
@@ -77,7 +79,7 @@ module _ (w h : ℕ) where
           later = es;
           stands = refl;
           hit = k.0;
-          final = λ b a g e t. T_not (any (same_stretch m.stretch) (touched_by w h es next)) k.1
+          final = λ b a g e t. T_not (list_any (same_stretch m.stretch) (touched_by w h es next)) k.1
               (subst (λ (l : List Entry). In same_stretch m.stretch (touched_by w h l next)) (sym e) (unsplit b g a next m.stretch t));
         },
       ))
@@ -107,7 +109,7 @@ marks_mean w h line m a b layered =
           let l = x.last in
           let e = x.entry in
           let ls = layered_at l.before e l.later (subst LineLayered l.stands layered) in
-          subst (λ (es : List Entry). T (any (same_mark m) (marks w h es blank_sheet))) (sym l.stands)
+          subst (λ (es : List Entry). T (list_any (same_mark m) (marks w h es blank_sheet))) (sym l.stands)
           (to_marks w h l.before e l.later blank_sheet m x.place ((touched_means w h e.edit (shown w h l.before) q a b ls.0 (off l.before)).0 (x.proper, l.touches))
           (λ c d f s t. l.last c d f s ((touched_means w h f.edit (shown w h (l.before ++ (e ∷ c))) q a b (layered_at c f d (subst LineLayered s ls.1)).0 (off (l.before ++ (e ∷ c)))).1 t).1))),
       (λ t.
@@ -151,10 +153,10 @@ last_more w h s (d ∷ es) e q =
     go false u l = refl
 
 -- a stretch that is touched has a last edit
-touched_last : (w h : ℕ) (es : List Entry) (s : Sheet) (q : Stretch) → any (same_stretch q) (touched_by w h es s) ≡ not (eqb (last_from w h s es q) 0)
+touched_last : (w h : ℕ) (es : List Entry) (s : Sheet) (q : Stretch) → list_any (same_stretch q) (touched_by w h es s) ≡ not (eqb (last_from w h s es q) 0)
 touched_last w h [] s q = refl
 touched_last w h (e ∷ es) s q =
-    any_append (same_stretch q) (touched w h e.edit s) (touched_by w h es (draw w h e.edit s)) ∙
+    list_any-append (same_stretch q) (touched w h e.edit s) (touched_by w h es (draw w h e.edit s)) ∙
     ap (λ t. touches w h e.edit s q || t) (touched_last w h es (draw w h e.edit s) q) ∙
     go (touches w h e.edit s q) (last_from w h (draw w h e.edit s) es q)
   where
@@ -165,11 +167,11 @@ touched_last w h (e ∷ es) s q =
     go false (suc l) = refl
 
 -- the marks are the stretches with their last edits
-mark_last : (w h : ℕ) (es : List Entry) (s : Sheet) (q : Stretch) (p : ℕ) → any (same_mark (mark p q)) (marks w h es s) ≡ eqb (last_from w h s es q) (suc p)
+mark_last : (w h : ℕ) (es : List Entry) (s : Sheet) (q : Stretch) (p : ℕ) → list_any (same_mark (mark p q)) (marks w h es s) ≡ eqb (last_from w h s es q) (suc p)
 mark_last w h [] s q p = sym (zero_not p)
 mark_last w h (e ∷ es) s q p =
-    any_append (same_mark (mark p q)) (map (mark e.place) firsts) (marks w h es next) ∙
-    ap₂ ◌||◌ (same_truth (any (same_mark (mark p q)) (map (mark e.place) firsts)) ((touches w h e.edit s q && not (any (same_stretch q) later)) && eqb p e.place) to from) (mark_last w h es next q p) ∙
+    list_any-append (same_mark (mark p q)) (map (mark e.place) firsts) (marks w h es next) ∙
+    ap₂ ◌||◌ (same_truth (list_any (same_mark (mark p q)) (map (mark e.place) firsts)) ((touches w h e.edit s q && not (list_any (same_stretch q) later)) && eqb p e.place) to from) (mark_last w h es next q p) ∙
     ap (λ t. ((touches w h e.edit s q && not t) && eqb p e.place) || eqb (last_from w h next es q) (suc p)) (touched_last w h es next q) ∙
     go (touches w h e.edit s q) (last_from w h next es q)
   where
@@ -180,29 +182,25 @@ mark_last w h (e ∷ es) s q p =
     later = touched_by w h es next
 
     free : Stretch → Bool
-    free q = not (any (same_stretch q) later)
+    free q = not (list_any (same_stretch q) later)
 
     firsts : List Stretch
-    firsts = keep free (touched w h e.edit s)
+    firsts = filter free (touched w h e.edit s)
 
-    to : T (any (same_mark (mark p q)) (map (mark e.place) firsts)) → T ((touches w h e.edit s q && free q) && eqb p e.place)
+    to : T (list_any (same_mark (mark p q)) (map (mark e.place) firsts)) → T ((touches w h e.edit s q && free q) && eqb p e.place)
     to t =
         let a = from_marked e.place (mark p q) firsts t in
-        let b = from_keep same_stretch stretch_self stretch_tells free q (touched w h e.edit s) a.1 in
-        and_both (touches w h e.edit s q && free q) (eqb p e.place) (and_both (touches w h e.edit s q) (free q) b.0 b.1) (rw a.0 (eqb_refl e.place))
+        let b = from_filter same_stretch stretch_self stretch_tells free q (touched w h e.edit s) a.1 in
+        yes_and (touches w h e.edit s q && free q) (eqb p e.place) (yes_and (touches w h e.edit s q) (free q) b.0 b.1) (rw a.0 (eqb_refl e.place))
 
-    from : T ((touches w h e.edit s q && free q) && eqb p e.place) → T (any (same_mark (mark p q)) (map (mark e.place) firsts))
+    from : T ((touches w h e.edit s q && free q) && eqb p e.place) → T (list_any (same_mark (mark p q)) (map (mark e.place) firsts))
     from t =
         let a = and_left (touches w h e.edit s q && free q) (eqb p e.place) t in
         let b = eqb→eq p e.place (and_right (touches w h e.edit s q && free q) (eqb p e.place) t) in
-        to_marked e.place (mark p q) firsts b (to_keep same_stretch stretch_self stretch_tells free q (touched w h e.edit s) (and_left (touches w h e.edit s q) (free q) a) (and_right (touches w h e.edit s q) (free q) a))
-
-    or_none : (t : Bool) → (t || false) ≡ t
-    or_none true = refl
-    or_none false = refl
+        to_marked e.place (mark p q) firsts b (to_filter same_stretch stretch_self stretch_tells free q (touched w h e.edit s) (and_left (touches w h e.edit s q) (free q) a) (and_right (touches w h e.edit s q) (free q) a))
 
     go : (t : Bool) (l : ℕ) → (((t && not (not (eqb l 0))) && eqb p e.place) || eqb l (suc p)) ≡ eqb (or_this t e.place l) (suc p)
-    go true zero = ap (λ y. eqb p e.place || y) (zero_not p) ∙ or_none (eqb p e.place) ∙ one_less p e.place
+    go true zero = ap (λ y. eqb p e.place || y) (zero_not p) ∙ or-false (eqb p e.place) ∙ one_less p e.place
     go true (suc l) = ap (λ y. (not (not y) && eqb p e.place) || eqb (suc l) (suc p)) (not_zero l)
     go false zero = refl
     go false (suc l) = refl

@@ -1,9 +1,9 @@
 -- What holds of every list of calls.
 use Rattle.std.proofs.Common.{◌≡◌, ℕ, suc, ◌+◌, Bool, true, false, cond, not, T, eqb, List, [], ◌∷◌, ◌++◌, map, length, sym, refl, ap, ◌∙◌, subst, ⊎_elim, append_assoc, append-nil, add-zero, add-suc, suc-add, zero-add, arith, eqb→eq, length-append, ltb-false}
 use Rattle.std.proofs.Math.Option.{Option, none, some}
-use Rattle.std.specs.List.{AllByRecursion}
+use Rattle.std.specs.List.{AllByRecursion, filter, flat_map, list_any}
 use Rattle.std.proofs.Math.Dec.{eqb_refl}
-use Rattle.rules.specs.Lists.{any, keep, gather, Once}
+use Rattle.rules.specs.Lists.{Once}
 use Rattle.rules.specs.Refusals.{Refusal, no_change, no_blocks}
 use Rattle.rules.proofs.Tests.{or_left, or_right, is_true, is_false}
 use Rattle.rules.proofs.Onces.{In, in_either, distinct_once, from_distinct, to_distinct}
@@ -68,13 +68,13 @@ runs_take_need n cs s e r =
 -- THE COUNT
 
 -- a mark that is gathered is that of some live snapshot, found by its number
-marked_live : (m : Mark) (f : Snapshot → List Mark) (other : Snapshot) (ps : List Snapshot) → Once eqb (map (λ p. p.number) ps) → In same_mark m (gather f ps) → (s : ℕ) × Among s ps × In same_mark m (f (find other s ps))
+marked_live : (m : Mark) (f : Snapshot → List Mark) (other : Snapshot) (ps : List Snapshot) → Once eqb (map (λ p. p.number) ps) → In same_mark m (flat_map f ps) → (s : ℕ) × Among s ps × In same_mark m (f (find other s ps))
 marked_live m f other [] o t = absurd t
 marked_live m f other (p ∷ ps) o t =
     ⊎_elim
     (λ u. (
       p.number,
-      or_left (eqb p.number p.number) (any (λ q. eqb q.number p.number) ps) (eqb_refl p.number),
+      or_left (eqb p.number p.number) (list_any (λ q. eqb q.number p.number) ps) (eqb_refl p.number),
       rw (is_true (eqb p.number p.number) (eqb_refl p.number)) u,
     ))
     (λ u. let r = marked_live m f other ps o.1 u in
@@ -82,14 +82,14 @@ marked_live m f other (p ∷ ps) o t =
     let ne : eqb p.number s ≡ false
     = is_false (eqb p.number s) (λ v. o.0 (subst T (sym (among_numbers p.number ps)) (subst (λ (z : ℕ). Among z ps) (sym (eqb→eq p.number s v)) r.1)))
     in
-    (s, or_right (eqb p.number s) (any (λ q. eqb q.number s) ps) r.1, subst (λ (b : Bool). In same_mark m (f (cond b p (find other s ps)))) (sym ne) r.2))
-    (in_either same_mark m (f p) (gather f ps) t)
+    (s, or_right (eqb p.number s) (list_any (λ q. eqb q.number s) ps) r.1, subst (λ (b : Bool). In same_mark m (f (cond b p (find other s ps)))) (sym ne) r.2))
+    (in_either same_mark m (f p) (flat_map f ps) t)
 
 pub sound_counted : (n i : ℕ) (h : History) → SoundHistory n i h → Counted h
 sound_counted n i h sound =
     let w = h.width in
     let t = h.height in
-    let all = gather (of w t) h.live in
+    let all = flat_map (of w t) h.live in
     record {
       once = distinct_once same_mark mark_self mark_tells all;
       means = λ m. (
@@ -123,7 +123,7 @@ all_made_more : (cs ds : List Call) (ps : List Snapshot) → AllMade cs ps → A
 all_made_more cs ds ps a = all_mono (λ p b. all_mono (made_more cs ds) p.line b) ps a
 
 -- forgetting makes no entry
-all_made_rest : (cs : List Call) (s : ℕ) (up : Option ℕ) (ps : List Snapshot) → AllMade cs ps → AllMade cs (map (moved_up s up) (keep (λ p. not (eqb p.number s)) ps))
+all_made_rest : (cs : List Call) (s : ℕ) (up : Option ℕ) (ps : List Snapshot) → AllMade cs ps → AllMade cs (map (moved_up s up) (filter (λ p. not (eqb p.number s)) ps))
 all_made_rest cs s up [] a = tt
 all_made_rest cs s up (p ∷ ps) a = go (all_made_rest cs s up ps a.1) (not (eqb p.number s))
   where
@@ -131,7 +131,7 @@ all_made_rest cs s up (p ∷ ps) a = go (all_made_rest cs s up ps a.1) (not (eqb
     moved true = a.0
     moved false = a.0
 
-    go : AllMade cs (map (moved_up s up) (keep (λ p. not (eqb p.number s)) ps)) → (c : Bool) → AllMade cs (map (moved_up s up) (cond c (p ∷ keep (λ p. not (eqb p.number s)) ps) (keep (λ p. not (eqb p.number s)) ps)))
+    go : AllMade cs (map (moved_up s up) (filter (λ p. not (eqb p.number s)) ps)) → (c : Bool) → AllMade cs (map (moved_up s up) (cond c (p ∷ filter (λ p. not (eqb p.number s)) ps) (filter (λ p. not (eqb p.number s)) ps)))
     go ih true = (moved (elim p.parent [ none ↦ false | some q ↦ eqb q s ]), ih)
     go ih false = ih
 

@@ -2,14 +2,16 @@
 use Rattle.std.proofs.Common.{◌≡◌, ℕ, suc, ◌<◌, ◌≤◌, Bool, true, false, cond, not, ◌&&◌, ◌||◌, T, eqb, ltb, leb, List, [], ◌∷◌, ◌++◌, map, length, sym, refl, ap, ◌∙◌, subst, ⊎_elim, arith, eqb→eq, leb→le, ltb-false}
 use Rattle.std.proofs.Math.Option.{Option, none, some}
 use Rattle.std.proofs.lemmas.Bool.Decides.{eqb_tells}
-use Rattle.std.specs.List.{AllByRecursion}
+use Rattle.std.specs.List.{AllByRecursion, filter, flat_map, list_any}
 use Rattle.std.proofs.Math.Dec.{eqb_refl, not_T}
-use Rattle.rules.specs.Lists.{any, keep, gather, distinct, Once}
+use Rattle.std.proofs.lemmas.List.Folds.{list_any-append}
+use Rattle.std.proofs.lemmas.List.{length-map}
+use Rattle.rules.proofs.Members.{length-filter_le}
+use Rattle.rules.specs.Lists.{distinct, Once}
 use Rattle.rules.specs.Sheets.{Edit, blank_sheet}
 use Rattle.rules.specs.DrawLaws.{Layered}
 use Rattle.rules.specs.Refusals.{Refusal, no_change, no_blocks}
 use Rattle.rules.proofs.Tests.{and_left, and_right, or_left, or_right, or_either, is_true}
-use Rattle.rules.proofs.Members.{any_append}
 use Rattle.rules.proofs.Onces.{In, in_left, in_right, in_either, fits, distinct_once, from_distinct, to_distinct}
 use Rattle.history.specs.Histories.{Entry, Snapshot, History, started, is_live, first_snapshot, find, snapshot, line_of, last_place, stands_under, latest_from, latest, children, latest_child}
 use Rattle.history.specs.Counts.{left_of, Mark, same_mark, marks}
@@ -95,7 +97,7 @@ latest_among s p [] e = or_left (eqb p.number s) false (subst (λ (k : ℕ). T (
 latest_among s p (q ∷ qs) e = go (ltb (last_place p.line) (last_place q.line)) (latest_among s (cond (ltb (last_place p.line) (last_place q.line)) q p) qs e)
   where
     rest : Bool
-    rest = any (λ q. eqb q.number s) qs
+    rest = list_any (λ q. eqb q.number s) qs
 
     go : (b : Bool) → T (eqb (cond b q p).number s || rest) → T (eqb p.number s || (eqb q.number s || rest))
     go true t = or_right (eqb p.number s) (eqb q.number s || rest) t
@@ -105,13 +107,13 @@ latest_among s p (q ∷ qs) e = go (ltb (last_place p.line) (last_place q.line))
         (λ u. or_right (eqb p.number s) (eqb q.number s || rest) (or_right (eqb q.number s) rest u))
         (or_either (eqb p.number s) rest t)
 
-kept_among : {A : Type 0} (f g : A → Bool) (ps : List A) → T (any f (keep g ps)) → T (any f ps)
+kept_among : {A : Type 0} (f g : A → Bool) (ps : List A) → T (list_any f (filter g ps)) → T (list_any f ps)
 kept_among f g [] t = t
 kept_among f g (p ∷ ps) t = go (kept_among f g ps) (g p) t
   where
-    go : (T (any f (keep g ps)) → T (any f ps)) → (b : Bool) → T (any f (cond b (p ∷ keep g ps) (keep g ps))) → T (f p || any f ps)
-    go ih true u = ⊎_elim (λ v. or_left (f p) (any f ps) v) (λ v. or_right (f p) (any f ps) (ih v)) (or_either (f p) (any f (keep g ps)) u)
-    go ih false u = or_right (f p) (any f ps) (ih u)
+    go : (T (list_any f (filter g ps)) → T (list_any f ps)) → (b : Bool) → T (list_any f (cond b (p ∷ filter g ps) (filter g ps))) → T (f p || list_any f ps)
+    go ih true u = ⊎_elim (λ v. or_left (f p) (list_any f ps) v) (λ v. or_right (f p) (list_any f ps) (ih v)) (or_either (f p) (list_any f (filter g ps)) u)
+    go ih false u = or_right (f p) (list_any f ps) (ih u)
 
 child_live : (h : History) → T (is_live h.head h) → T (is_live (or_head (latest_child h) h) h)
 child_live h l = go (children h) (λ s t. kept_among (λ p. eqb p.number s) (stands_under h.head) h.live t)
@@ -158,7 +160,7 @@ module _ (n i s : ℕ) (e : Edit) (h : History) (sound : SoundHistory n i h) (be
   fresh = or_false_right (eqb s 0 || ltb 63 s) (is_live s h) free
 
   live_still : (q : ℕ) → T (is_live q h) → T (is_live q (edited i s e h))
-  live_still q t = rw any_append (or_left (any (λ p. eqb p.number q) h.live) (eqb s q || false) t)
+  live_still q t = rw list_any-append (or_left (list_any (λ p. eqb p.number q) h.live) (eqb s q || false) t)
 
   line_still : (q : ℕ) → T (is_live q h) → line_of q (edited i s e h) ≡ line_of q h
   line_still q t = ap (λ (p : Snapshot). p.line) (find_still first_snapshot new q h.live t)
@@ -197,7 +199,7 @@ module _ (n i s : ℕ) (e : Edit) (h : History) (sound : SoundHistory n i h) (be
     once = once_push new h.live sound.once fresh;
     begun = λ t. omega arith;
     root = λ t. live_still 0 (sound.root begun);
-    head = λ t. rw any_append (or_right (any (λ p. eqb p.number s) h.live) (eqb s s || false) (or_left (eqb s s) false (eqb_refl s)));
+    head = λ t. rw list_any-append (or_right (list_any (λ p. eqb p.number s) h.live) (eqb s s || false) (or_left (eqb s s) false (eqb_refl s)));
     wide = sound.wide;
     tall = sound.tall;
     sized = λ t. sound.sized begun;
@@ -235,51 +237,51 @@ module _ (n i s : ℕ) (h : History) (sound : SoundHistory n i h) (begun : T (st
       go false = refl
 
   abbrev rest : List Snapshot → List Snapshot
-  rest ps = map (moved_up s up) (keep stays ps)
+  rest ps = map (moved_up s up) (filter stays ps)
 
   -- what holds of each snapshot that stays, moved up, holds of the rest
   pub rest_all : (P Q : Snapshot → Type 0) → ((p : Snapshot) → P p → Q (moved_up s up p)) → (ps : List Snapshot) → AllByRecursion P ps → AllByRecursion Q (rest ps)
   rest_all P Q f [] a = tt
   rest_all P Q f (p ∷ ps) a = go (rest_all P Q f ps a.1) (stays p)
     where
-      go : AllByRecursion Q (rest ps) → (c : Bool) → AllByRecursion Q (map (moved_up s up) (cond c (p ∷ keep stays ps) (keep stays ps)))
+      go : AllByRecursion Q (rest ps) → (c : Bool) → AllByRecursion Q (map (moved_up s up) (cond c (p ∷ filter stays ps) (filter stays ps)))
       go ih true = (f p a.0, ih)
       go ih false = ih
 
   pub rest_live : (q : ℕ) → (q ≡ s → ⊥) → (ps : List Snapshot) → Among q ps → Among q (rest ps)
   rest_live q ne [] t = t
-  rest_live q ne (p ∷ ps) t = ⊎_elim (λ u. here u) (λ u. there (rest_live q ne ps u) (stays p)) (or_either (eqb p.number q) (any (λ p. eqb p.number q) ps) t)
+  rest_live q ne (p ∷ ps) t = ⊎_elim (λ u. here u) (λ u. there (rest_live q ne ps u) (stays p)) (or_either (eqb p.number q) (list_any (λ p. eqb p.number q) ps) t)
     where
-      there : Among q (rest ps) → (c : Bool) → Among q (map (moved_up s up) (cond c (p ∷ keep stays ps) (keep stays ps)))
-      there ih true = or_right (eqb (moved_up s up p).number q) (any (λ p. eqb p.number q) (rest ps)) ih
+      there : Among q (rest ps) → (c : Bool) → Among q (map (moved_up s up) (cond c (p ∷ filter stays ps) (filter stays ps)))
+      there ih true = or_right (eqb (moved_up s up p).number q) (list_any (λ p. eqb p.number q) (rest ps)) ih
       there ih false = ih
 
-      here : T (eqb p.number q) → Among q (map (moved_up s up) (cond (stays p) (p ∷ keep stays ps) (keep stays ps)))
+      here : T (eqb p.number q) → Among q (map (moved_up s up) (cond (stays p) (p ∷ filter stays ps) (filter stays ps)))
       here u =
           let k = eqb→eq p.number q u in
           let f : stays p ≡ true = is_true (stays p) (not_T (eqb p.number s) (λ v. ne (sym k ∙ eqb→eq p.number s v))) in
-          rw f (or_left (eqb (moved_up s up p).number q) (any (λ p. eqb p.number q) (rest ps)) (subst (λ (m : ℕ). T (eqb m q)) (sym (moved_number p)) u))
+          rw f (or_left (eqb (moved_up s up p).number q) (list_any (λ p. eqb p.number q) (rest ps)) (subst (λ (m : ℕ). T (eqb m q)) (sym (moved_number p)) u))
 
   -- no number comes to the rest
-  pub rest_old : (q : ℕ) (ps : List Snapshot) → T (any (eqb q) (map (λ p. p.number) (rest ps))) → T (any (eqb q) (map (λ p. p.number) ps))
+  pub rest_old : (q : ℕ) (ps : List Snapshot) → T (list_any (eqb q) (map (λ p. p.number) (rest ps))) → T (list_any (eqb q) (map (λ p. p.number) ps))
   rest_old q [] t = t
   rest_old q (p ∷ ps) t = go (rest_old q ps) (stays p) t
     where
-      go : (T (any (eqb q) (map (λ p. p.number) (rest ps))) → T (any (eqb q) (map (λ p. p.number) ps))) → (c : Bool)
-          → T (any (eqb q) (map (λ p. p.number) (map (moved_up s up) (cond c (p ∷ keep stays ps) (keep stays ps))))) → T (eqb q p.number || any (eqb q) (map (λ p. p.number) ps))
+      go : (T (list_any (eqb q) (map (λ p. p.number) (rest ps))) → T (list_any (eqb q) (map (λ p. p.number) ps))) → (c : Bool)
+          → T (list_any (eqb q) (map (λ p. p.number) (map (moved_up s up) (cond c (p ∷ filter stays ps) (filter stays ps))))) → T (eqb q p.number || list_any (eqb q) (map (λ p. p.number) ps))
       go ih true u =
           ⊎_elim
-          (λ v. or_left (eqb q p.number) (any (eqb q) (map (λ p. p.number) ps)) (subst (λ (m : ℕ). T (eqb q m)) (moved_number p) v))
-          (λ v. or_right (eqb q p.number) (any (eqb q) (map (λ p. p.number) ps)) (ih v))
-          (or_either (eqb q (moved_up s up p).number) (any (eqb q) (map (λ p. p.number) (rest ps))) u)
-      go ih false u = or_right (eqb q p.number) (any (eqb q) (map (λ p. p.number) ps)) (ih u)
+          (λ v. or_left (eqb q p.number) (list_any (eqb q) (map (λ p. p.number) ps)) (subst (λ (m : ℕ). T (eqb q m)) (moved_number p) v))
+          (λ v. or_right (eqb q p.number) (list_any (eqb q) (map (λ p. p.number) ps)) (ih v))
+          (or_either (eqb q (moved_up s up p).number) (list_any (eqb q) (map (λ p. p.number) (rest ps))) u)
+      go ih false u = or_right (eqb q p.number) (list_any (eqb q) (map (λ p. p.number) ps)) (ih u)
 
   rest_once : (ps : List Snapshot) → Once eqb (map (λ p. p.number) ps) → Once eqb (map (λ p. p.number) (rest ps))
   rest_once [] o = tt
   rest_once (p ∷ ps) o = go (rest_once ps o.1) (stays p)
     where
-      go : Once eqb (map (λ p. p.number) (rest ps)) → (c : Bool) → Once eqb (map (λ p. p.number) (map (moved_up s up) (cond c (p ∷ keep stays ps) (keep stays ps))))
-      go ih true = ((λ t. o.0 (rest_old p.number ps (subst (λ (m : ℕ). T (any (eqb m) (map (λ p. p.number) (rest ps)))) (moved_number p) t))), ih)
+      go : Once eqb (map (λ p. p.number) (rest ps)) → (c : Bool) → Once eqb (map (λ p. p.number) (map (moved_up s up) (cond c (p ∷ filter stays ps) (filter stays ps))))
+      go ih true = ((λ t. o.0 (rest_old p.number ps (subst (λ (m : ℕ). T (list_any (eqb m) (map (λ p. p.number) (rest ps)))) (moved_number p) t))), ih)
       go ih false = ih
 
   -- the lines of the others stay whole
@@ -288,7 +290,7 @@ module _ (n i s : ℕ) (h : History) (sound : SoundHistory n i h) (begun : T (st
   rest_line other q ne (p ∷ ps) = go (rest_line other q ne ps) (stays p) (eqb p.number q) refl refl
     where
       go : (find other q (rest ps)).line ≡ (find other q ps).line → (c d : Bool) → stays p ≡ c → eqb p.number q ≡ d
-          → (find other q (map (moved_up s up) (cond c (p ∷ keep stays ps) (keep stays ps)))).line ≡ (cond d p (find other q ps)).line
+          → (find other q (map (moved_up s up) (cond c (p ∷ filter stays ps) (filter stays ps)))).line ≡ (cond d p (find other q ps)).line
       go ih true true e f = rw (moved_number p, f) (moved_line p)
       go ih true false e f = rw (moved_number p, f) ih
       go ih false true e f =
@@ -329,26 +331,21 @@ module _ (n i s : ℕ) (h : History) (sound : SoundHistory n i h) (begun : T (st
   }
 
   -- no marks come, and no snapshots
-  marks_of_rest : (w t : ℕ) (m : Mark) (ps : List Snapshot) → In same_mark m (gather (of w t) (rest ps)) → In same_mark m (gather (of w t) ps)
+  marks_of_rest : (w t : ℕ) (m : Mark) (ps : List Snapshot) → In same_mark m (flat_map (of w t) (rest ps)) → In same_mark m (flat_map (of w t) ps)
   marks_of_rest w t m [] k = k
   marks_of_rest w t m (p ∷ ps) k = go (marks_of_rest w t m ps) (stays p) k
     where
-      go : (In same_mark m (gather (of w t) (rest ps)) → In same_mark m (gather (of w t) ps)) → (c : Bool)
-          → In same_mark m (gather (of w t) (map (moved_up s up) (cond c (p ∷ keep stays ps) (keep stays ps)))) → In same_mark m (of w t p ++ gather (of w t) ps)
+      go : (In same_mark m (flat_map (of w t) (rest ps)) → In same_mark m (flat_map (of w t) ps)) → (c : Bool)
+          → In same_mark m (flat_map (of w t) (map (moved_up s up) (cond c (p ∷ filter stays ps) (filter stays ps)))) → In same_mark m (of w t p ++ flat_map (of w t) ps)
       go ih true u =
           ⊎_elim
-          (λ v. in_left same_mark m (of w t p) (gather (of w t) ps) (subst (λ (es : List Entry). In same_mark m (marks w t es blank_sheet)) (moved_line p) v))
-          (λ v. in_right same_mark m (of w t p) (gather (of w t) ps) (ih v))
-          (in_either same_mark m (of w t (moved_up s up p)) (gather (of w t) (rest ps)) u)
-      go ih false u = in_right same_mark m (of w t p) (gather (of w t) ps) (ih u)
+          (λ v. in_left same_mark m (of w t p) (flat_map (of w t) ps) (subst (λ (es : List Entry). In same_mark m (marks w t es blank_sheet)) (moved_line p) v))
+          (λ v. in_right same_mark m (of w t p) (flat_map (of w t) ps) (ih v))
+          (in_either same_mark m (of w t (moved_up s up p)) (flat_map (of w t) (rest ps)) u)
+      go ih false u = in_right same_mark m (of w t p) (flat_map (of w t) ps) (ih u)
 
   fewer : (ps : List Snapshot) → length (rest ps) ≤ length ps
-  fewer [] = omega arith
-  fewer (p ∷ ps) = go (fewer ps) (stays p)
-    where
-      go : length (rest ps) ≤ length ps → (c : Bool) → length (map (moved_up s up) (cond c (p ∷ keep stays ps) (keep stays ps))) ≤ suc (length ps)
-      go ih true = omega arith
-      go ih false = omega arith
+  fewer ps = rw (length-map (filter stays ps) (moved_up s up)) (length-filter_le stays ps)
 
   pub forget_sound : SoundHistory n (suc i) after
   forget_sound = record {
@@ -361,8 +358,8 @@ module _ (n i s : ℕ) (h : History) (sound : SoundHistory n i h) (begun : T (st
     tall = sound.tall;
     sized = λ t. sound.sized begun;
     fits =
-        let olds = gather (of h.width h.height) h.live in
-        let news = gather (of h.width h.height) (rest h.live) in
+        let olds = flat_map (of h.width h.height) h.live in
+        let news = flat_map (of h.width h.height) (rest h.live) in
         let a : length (distinct same_mark news) ≤ length (distinct same_mark olds)
         = fits same_mark mark_self mark_tells (distinct same_mark news) (distinct same_mark olds) (distinct_once same_mark mark_self mark_tells news)
         (λ z t. to_distinct same_mark mark_self mark_tells z olds (marks_of_rest h.width h.height z h.live (from_distinct same_mark mark_self mark_tells z news t)))

@@ -6,7 +6,8 @@
 --   step      the history after a call: unaltered where it is refused
 use Rattle.std.specs.Prelude.{ℕ, Bool, true, false, cond, not, ◌&&◌, ◌||◌, List, [], ◌∷◌, ◌++◌, map, length, ◌==◌, nat_le, nat_lt}
 use Rattle.std.proofs.Math.Option.{Option, none, some}
-use Rattle.rules.specs.Lists.{any, keep, none_of}
+use Rattle.std.specs.List.{filter, list_any}
+use Rattle.rules.specs.Lists.{none_of}
 use Rattle.rules.specs.Dots.{Dot}
 use Rattle.rules.specs.Lines.{Point, on_sheet}
 use Rattle.rules.specs.Sheets.{Sheet, Edit, stroke, fill, frisket, layer, changed}
@@ -69,7 +70,7 @@ outside h p = not (on_sheet h.width h.height p)
 
 -- whether the points of a stroke are none, more than 64, or not all on the sheet
 abbrev pub points_wrong : List Point → History → Bool
-points_wrong ps h = none_of ps || nat_lt 64 (length ps) || any (outside h) ps
+points_wrong ps h = none_of ps || nat_lt 64 (length ps) || list_any (outside h) ps
 
 -- whether an edit would change no cell of the head's sheet
 abbrev pub changes_nothing : Edit → History → Bool
@@ -178,7 +179,7 @@ forgotten s h = record {
   width = h.width;
   height = h.height;
   head = h.head;
-  live = map (moved_up s (snapshot s h).parent) (keep (λ p. not (p.number == s)) h.live);
+  live = map (moved_up s (snapshot s h).parent) (filter (λ p. not (p.number == s)) h.live);
 }
 
 -- what a call that is not refused does, at its place among the calls; a question does nothing

@@ -5,7 +5,8 @@
 --   count       the live snapshots, and the marks of all live lines, each once
 --   left        what the count leaves of the store's blocks
 use Rattle.std.specs.Prelude.{ℕ, zero, suc, ◌+◌, ◌-◌, Bool, cond, not, ◌&&◌, List, [], ◌∷◌, ◌++◌, map, length, ◌==◌}
-use Rattle.rules.specs.Lists.{any, keep, distinct, gather}
+use Rattle.std.specs.List.{filter, flat_map, list_any}
+use Rattle.rules.specs.Lists.{distinct}
 use Rattle.rules.specs.Sheets.{Sheet, draw, blank_sheet}
 use Rattle.rules.specs.Stretches.{Stretch, same_stretch, touched, touches}
 use Rattle.history.specs.Histories.{Entry, History, line_of}
@@ -45,11 +46,11 @@ marks w h [] s = []
 marks w h (e ∷ es) s =
     let next = draw w h e.edit s in
     let later = touched_by w h es next in
-    map (mark e.place) (keep (λ q. not (any (same_stretch q) later)) (touched w h e.edit s)) ++ marks w h es next
+    map (mark e.place) (filter (λ q. not (list_any (same_stretch q) later)) (touched w h e.edit s)) ++ marks w h es next
 
 -- the marks of all live lines, each once
 abbrev pub all_marks : History → List Mark
-all_marks h = distinct same_mark (gather (λ p. marks h.width h.height p.line blank_sheet) h.live)
+all_marks h = distinct same_mark (flat_map (λ p. marks h.width h.height p.line blank_sheet) h.live)
 
 abbrev pub count : History → ℕ
 count h = length h.live + length (all_marks h)

@@ -10,7 +10,8 @@
 --   child      a snapshot stands under its parent; the child made latest has the last edit with the highest place
 use Rattle.std.specs.Prelude.{ℕ, Bool, false, cond, not, List, [], ◌∷◌, map, ◌==◌, nat_eq, nat_lt}
 use Rattle.std.proofs.Math.Option.{Option, none, some}
-use Rattle.rules.specs.Lists.{any, keep, none_of}
+use Rattle.std.specs.List.{filter, list_any}
+use Rattle.rules.specs.Lists.{none_of}
 use Rattle.rules.specs.Sheets.{Sheet, Edit, drawn}
 
 pub record Entry : Type 0 where
@@ -39,7 +40,7 @@ started h = not (none_of h.live)
 
 -- whether a number is that of a live snapshot
 abbrev pub is_live : ℕ → History → Bool
-is_live s h = any (λ p. nat_eq p.number s) h.live
+is_live s h = list_any (λ p. nat_eq p.number s) h.live
 
 -- snapshot 0, as it is made: a blank sheet
 abbrev pub first_snapshot : Snapshot
@@ -88,7 +89,7 @@ latest (p ∷ ps) = some (latest_from p ps).number
 
 -- the snapshots that stand under the head, and the one of them made latest
 abbrev pub children : History → List Snapshot
-children h = keep (stands_under h.head) h.live
+children h = filter (stands_under h.head) h.live
 
 abbrev pub latest_child : History → Option ℕ
 latest_child h = latest (children h)

@@ -1,8 +1,8 @@
 -- What is proved of histories and of runs.
 use Rattle.std.specs.Prelude.{◌≡◌, ℕ, suc, ◌+◌, ◌<◌, ◌≤◌, T, ◌↔◌, List, [], ◌∷◌, ◌++◌, map, length, ◌==◌, ◌≢◌, nat_eq}
 use Rattle.std.proofs.Math.Option.{none, some}
-use Rattle.std.specs.List.{AllByRecursion}
-use Rattle.rules.specs.Lists.{any, Once}
+use Rattle.std.specs.List.{AllByRecursion, list_any}
+use Rattle.rules.specs.Lists.{Once}
 use Rattle.rules.specs.Sheets.{Edit, blank_sheet}
 use Rattle.rules.specs.Stretches.{Stretch, Proper}
 use Rattle.rules.specs.DrawLaws.{Layered, Touches}
@@ -41,11 +41,11 @@ pub record Marks (w h : ℕ) (line : List Entry) (m : Mark) : Type 0 where
 -- the marks of a line are exactly the last touches
 abbrev pub MarksMean : Type 0
 MarksMean = (w h : ℕ) (line : List Entry) (m : Mark) → w ≤ 256 → h ≤ 256 → LineLayered line
-    → Marks w h line m ↔ T (any (same_mark m) (marks w h line blank_sheet))
+    → Marks w h line m ↔ T (list_any (same_mark m) (marks w h line blank_sheet))
 
 -- a place is marked at a stretch exactly where it is that of the last edit
 abbrev pub MarksLast : Type 0
-MarksLast = (w h : ℕ) (line : List Entry) (q : Stretch) (p : ℕ) → any (same_mark (mark p q)) (marks w h line blank_sheet) ≡ (last_from w h blank_sheet line q == suc p)
+MarksLast = (w h : ℕ) (line : List Entry) (q : Stretch) (p : ℕ) → list_any (same_mark (mark p q)) (marks w h line blank_sheet) ≡ (last_from w h blank_sheet line q == suc p)
 
 -- WHAT HOLDS OF EVERY RUN
 
@@ -83,7 +83,7 @@ RunsSound = (n : ℕ) (cs : List Call) → SoundHistory n (length cs) (run n cs)
 -- the marks that are counted are those of the live lines, each once
 pub record Counted (h : History) : Type 0 where
   pub once : Once same_mark (all_marks h)
-  pub means : (m : Mark) → ((s : ℕ) × T (is_live s h) × Marks h.width h.height (line_of s h) m) ↔ T (any (same_mark m) (all_marks h))
+  pub means : (m : Mark) → ((s : ℕ) × T (is_live s h) × Marks h.width h.height (line_of s h) m) ↔ T (list_any (same_mark m) (all_marks h))
 
 abbrev pub RunsCounted : Type 0
 RunsCounted = (n : ℕ) (cs : List Call) → Counted (run n cs)

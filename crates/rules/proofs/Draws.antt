@@ -1,12 +1,12 @@
 -- What drawing keeps.
-use Rattle.std.proofs.Common.{◌≡◌, ℕ, Bool, true, false, cond, not, ◌&&◌, T, eqb, List, [], ◌∷◌, refl, arith}
+use Rattle.std.proofs.Common.{◌≡◌, ℕ, Bool, true, false, cond, not, ◌&&◌, T, eqb, List, [], ◌∷◌, refl, arith, T_not}
 use Rattle.std.proofs.Math.Option.{Option, none, some}
-use Rattle.std.specs.List.{AllByRecursion}
+use Rattle.std.specs.List.{AllByRecursion, list_any}
 use Rattle.std.proofs.lemmas.Bool.{ne_eqb}
 use Rattle.std.proofs.Math.Dec.{eqb_refl}
 use Rattle.rules.specs.Dots.{Dot, Sound, blank, over, laid, faded, same_dot}
 use Rattle.rules.specs.Lines.{Point, on_sheet, covers, in_rectangle, in_square, trail}
-use Rattle.rules.specs.Lists.{any, below}
+use Rattle.rules.specs.Lists.{below}
 use Rattle.rules.specs.Pictures.{seen_through, layers_over}
 use Rattle.rules.specs.Reach.{Reach, reached, listed}
 use Rattle.rules.specs.Sheets.{Sheet, Edit, stroke, fill, frisket, layer, draw, drawn_on, blank_sheet, fills_through}
@@ -35,10 +35,6 @@ reach_through (Reach.left r t) = t
 reach_through (Reach.down r t) = t
 reach_through (Reach.up r t) = t
 
-not_both : (b : Bool) → T (not b) → T b → ⊥
-not_both true p q = p
-not_both false p q = q
-
 none_listed : (a b : Bool) → (T b → ⊥) → (a && b) ≡ false
 none_listed true b n = is_false b n
 none_listed false b n = refl
@@ -55,7 +51,7 @@ pub protected_kept : ProtectedKept
 protected_kept w h (stroke k pen ps) s l x y t = rw (no_stroke (eqb l k) (s.protected x y) (covers w h pen.side ps x y) t)
 protected_kept w h (fill k pen p) s l x y t =
     rw (none_listed (eqb l k) (listed (reached w h (fills_through w h s k p) p) x y)
-    (λ u. not_both (s.protected x y) (through_free w h s k p x y (reach_through ((rounds_reach w h (fills_through w h s k p) p (through_inside w h s k p) x y).1 u))) t))
+    (λ u. T_not (s.protected x y) (through_free w h s k p x y (reach_through ((rounds_reach w h (fills_through w h s k p) p (through_inside w h s k p) x y).1 u))) t))
 protected_kept w h (frisket protects a b) s l x y t = refl
 protected_kept w h (layer k o) s l x y t = refl
 
@@ -115,13 +111,13 @@ no_ink false c b d t = refl
 
 pub draw_inside : (w h : ℕ) (e : Edit) (s : Sheet) → OffSheet w h s → OffSheet w h (draw w h e s)
 draw_inside w h (stroke k pen ps) s o = record {
-  dots = λ l x y t. rw (no_ink (eqb l k) (not (s.protected x y)) (on_sheet w h (x, y)) (any (in_square pen.side x y) (trail ps)) t) (o.dots l x y t);
+  dots = λ l x y t. rw (no_ink (eqb l k) (not (s.protected x y)) (on_sheet w h (x, y)) (list_any (in_square pen.side x y) (trail ps)) t) (o.dots l x y t);
   frisket = o.frisket;
 }
 draw_inside w h (fill k pen p) s o = record {
   dots = λ l x y t.
       rw (none_listed (eqb l k) (listed (reached w h (fills_through w h s k p) p) x y)
-      (λ u. not_both (on_sheet w h (x, y)) t (through_inside w h s k p x y (reach_through ((rounds_reach w h (fills_through w h s k p) p (through_inside w h s k p) x y).1 u))))) (o.dots l x y t);
+      (λ u. T_not (on_sheet w h (x, y)) t (through_inside w h s k p x y (reach_through ((rounds_reach w h (fills_through w h s k p) p (through_inside w h s k p) x y).1 u))))) (o.dots l x y t);
   frisket = o.frisket;
 }
 draw_inside w h (frisket protects a b) s o = record {

@@ -2,12 +2,14 @@
 use Rattle.std.proofs.Common.{◌≡◌, ℕ, zero, suc, ◌+◌, ◌*◌, ◌<◌, Bool, ◌&&◌, ◌||◌, T, eqb, ltb, ◌⊎◌, List, [], ◌∷◌, length, sym, ap, ◌∙◌, subst, subst₂, inl, inr, ⊎_elim, arith, eqb→eq, ltb→lt}
 use Rattle.std.proofs.lemmas.Bool.Decides.{eqb_tells}
 use Rattle.std.proofs.Math.Dec.{eqb_refl}
-use Rattle.rules.specs.Lists.{keep, apart}
+use Rattle.std.specs.List.{filter}
+use Rattle.std.proofs.Math.Facts.{yes_and}
+use Rattle.rules.specs.Lists.{apart}
 use Rattle.rules.specs.Lines.{Point, on_sheet}
 use Rattle.rules.specs.Reach.{Reach, here, right, left, up, down, listed, beside, points_on, next_round, rounds, reached}
 use Rattle.rules.specs.DrawLaws.{RoundsReach}
-use Rattle.rules.proofs.Tests.{and_both, and_left, and_right, or_left, or_right, or_either}
-use Rattle.rules.proofs.Members.{on_points, length_points, kept_listed, listed_kept, kept_most, kept_more}
+use Rattle.rules.proofs.Tests.{and_left, and_right, or_left, or_right, or_either}
+use Rattle.rules.proofs.Members.{on_points, length_points, kept_listed, listed_kept, length-filter_le, kept_more}
 
 -- (a, b) and (x, y) are one step apart
 abbrev Next : ℕ → ℕ → ℕ → ℕ → Type 0
@@ -17,7 +19,7 @@ beside_from : (ps : List Point) (x y : ℕ) → T (beside ps x y) → (a : ℕ) 
 beside_from [] x y t = absurd t
 beside_from (p ∷ ps) x y t =
     ⊎_elim
-    (λ u. (p.0, p.1, or_left (eqb p.0 p.0 && eqb p.1 p.1) (listed ps p.0 p.1) (and_both (eqb p.0 p.0) (eqb p.1 p.1) (eqb_refl p.0) (eqb_refl p.1)), eqb→eq (apart p.0 x + apart p.1 y) 1 u))
+    (λ u. (p.0, p.1, or_left (eqb p.0 p.0 && eqb p.1 p.1) (listed ps p.0 p.1) (yes_and (eqb p.0 p.0) (eqb p.1 p.1) (eqb_refl p.0) (eqb_refl p.1)), eqb→eq (apart p.0 x + apart p.1 y) 1 u))
     (λ u. let r = beside_from ps x y u in (r.0, r.1, or_right (eqb p.0 r.0 && eqb p.1 r.1) (listed ps r.0 r.1) r.2, r.3))
     (or_either (eqb (apart p.0 x + apart p.1 y) 1) (beside ps x y) t)
 
@@ -86,9 +88,9 @@ module _ (w h : ℕ) (through : ℕ → ℕ → Bool) (p : Point) (inside : (x y
       on_points w h x y (ltb→lt x w (and_left (ltb x w) (ltb y h) k)) (ltb→lt y h (and_right (ltb x w) (ltb y h) k))
 
   -- what the old round kept, the next one keeps, or it is longer
-  grows : (f : Point → Bool) → (let old = keep f (points_on w h) in (next_round w h through old ≡ old) ⊎ (length old < length (next_round w h through old)))
+  grows : (f : Point → Bool) → (let old = filter f (points_on w h) in (next_round w h through old ≡ old) ⊎ (length old < length (next_round w h through old)))
   grows f =
-      let old = keep f (points_on w h) in
+      let old = filter f (points_on w h) in
       kept_more f (λ q. listed old q.0 q.1 || (through q.0 q.1 && beside old q.0 q.1)) (points_on w h)
       (λ x y t u. or_left (listed old x y) (through x y && beside old x y) (listed_kept f (points_on w h) x y t u))
 
@@ -110,7 +112,7 @@ module _ (w h : ℕ) (through : ℕ → ℕ → Bool) (p : Point) (inside : (x y
   stable =
       ⊎_elim
       (λ e. e)
-      (λ l. absurd (let m = kept_most (λ q. listed (rounds w h through p (w * h)) q.0 q.1 || (through q.0 q.1 && beside (rounds w h through p (w * h)) q.0 q.1)) (points_on w h) in
+      (λ l. absurd (let m = length-filter_le (λ q. listed (rounds w h through p (w * h)) q.0 q.1 || (through q.0 q.1 && beside (rounds w h through p (w * h)) q.0 q.1)) (points_on w h) in
       omega (arith, length_points w h)))
       (long (w * h))
 
@@ -118,7 +120,7 @@ module _ (w h : ℕ) (through : ℕ → ℕ → Bool) (p : Point) (inside : (x y
   begun : (n : ℕ) → T (through p.0 p.1) → T (listed (rounds w h through p n) p.0 p.1)
   begun zero t =
       listed_kept (λ q. eqb q.0 p.0 && eqb q.1 p.1 && through q.0 q.1) (points_on w h) p.0 p.1 (among p.0 p.1 t)
-      (and_both (eqb p.0 p.0 && eqb p.1 p.1) (through p.0 p.1) (and_both (eqb p.0 p.0) (eqb p.1 p.1) (eqb_refl p.0) (eqb_refl p.1)) t)
+      (yes_and (eqb p.0 p.0 && eqb p.1 p.1) (through p.0 p.1) (yes_and (eqb p.0 p.0) (eqb p.1 p.1) (eqb_refl p.0) (eqb_refl p.1)) t)
   begun (suc n) t =
       let old = rounds w h through p n in
       listed_kept (λ q. listed old q.0 q.1 || (through q.0 q.1 && beside old q.0 q.1)) (points_on w h) p.0 p.1 (among p.0 p.1 t)
@@ -131,7 +133,7 @@ module _ (w h : ℕ) (through : ℕ → ℕ → Bool) (p : Point) (inside : (x y
       let old = rounds w h through p (w * h) in
       subst (λ (ps : List Point). T (listed ps x y)) stable
       (listed_kept (λ q. listed old q.0 q.1 || (through q.0 q.1 && beside old q.0 q.1)) (points_on w h) x y (among x y t)
-      (or_right (listed old x y) (through x y && beside old x y) (and_both (through x y) (beside old x y) t (to_beside old a b x y l n))))
+      (or_right (listed old x y) (through x y && beside old x y) (yes_and (through x y) (beside old x y) t (to_beside old a b x y l n))))
 
   complete : {x y : ℕ} → Reach through p.0 p.1 x y → T (listed (reached w h through p) x y)
   complete (here t) = begun (w * h) t

@@ -1,57 +1,58 @@
 -- Lists without repetitions: how long they are goes by what is on them.
 use Rattle.std.proofs.Common.{◌≡◌, suc, ◌≤◌, Bool, true, false, cond, ◌||◌, T, ◌⊎◌, List, [], ◌∷◌, ◌++◌, length, sym, refl, ap, ◌∙◌, subst, ⊎_elim, le_antisymm, arith}
-use Rattle.rules.specs.Lists.{any, keep, distinct, Once}
+use Rattle.std.specs.List.{filter, list_any}
+use Rattle.std.proofs.lemmas.List.Folds.{list_any-append}
+use Rattle.rules.specs.Lists.{distinct, Once}
 use Rattle.rules.proofs.Tests.{or_left, or_right, or_either}
-use Rattle.rules.proofs.Members.{any_append}
 
 module _ {A : Type 0} (same : A → A → Bool) where
   -- x is on the list
   abbrev pub In : A → List A → Type 0
-  In x xs = T (any (same x) xs)
+  In x xs = T (list_any (same x) xs)
 
   pub in_left : (x : A) (xs ys : List A) → In x xs → In x (xs ++ ys)
-  in_left x xs ys t = rw any_append (or_left (any (same x) xs) (any (same x) ys) t)
+  in_left x xs ys t = rw list_any-append (or_left (list_any (same x) xs) (list_any (same x) ys) t)
 
   pub in_right : (x : A) (xs ys : List A) → In x ys → In x (xs ++ ys)
-  in_right x xs ys t = rw any_append (or_right (any (same x) xs) (any (same x) ys) t)
+  in_right x xs ys t = rw list_any-append (or_right (list_any (same x) xs) (list_any (same x) ys) t)
 
   pub in_either : (x : A) (xs ys : List A) → In x (xs ++ ys) → In x xs ⊎ In x ys
-  in_either x xs ys t = or_either (any (same x) xs) (any (same x) ys) (rw any_append at t)
+  in_either x xs ys t = or_either (list_any (same x) xs) (list_any (same x) ys) (rw list_any-append at t)
 
   module _ (self : (a : A) → T (same a a)) (tells : (a b : A) → T (same a b) → a ≡ b) where
     pub from_distinct : (x : A) (xs : List A) → In x (distinct same xs) → In x xs
     from_distinct x [] t = t
-    from_distinct x (y ∷ xs) t = go (λ u. from_distinct x xs u) (any (same y) xs) t
+    from_distinct x (y ∷ xs) t = go (λ u. from_distinct x xs u) (list_any (same y) xs) t
       where
-        go : (In x (distinct same xs) → In x xs) → (b : Bool) → In x (cond b (distinct same xs) (y ∷ distinct same xs)) → T (same x y || any (same x) xs)
-        go ih true u = or_right (same x y) (any (same x) xs) (ih u)
+        go : (In x (distinct same xs) → In x xs) → (b : Bool) → In x (cond b (distinct same xs) (y ∷ distinct same xs)) → T (same x y || list_any (same x) xs)
+        go ih true u = or_right (same x y) (list_any (same x) xs) (ih u)
         go ih false u =
             ⊎_elim
-            (λ v. or_left (same x y) (any (same x) xs) v)
-            (λ v. or_right (same x y) (any (same x) xs) (ih v))
-            (or_either (same x y) (any (same x) (distinct same xs)) u)
+            (λ v. or_left (same x y) (list_any (same x) xs) v)
+            (λ v. or_right (same x y) (list_any (same x) xs) (ih v))
+            (or_either (same x y) (list_any (same x) (distinct same xs)) u)
 
     pub to_distinct : (x : A) (xs : List A) → In x xs → In x (distinct same xs)
     to_distinct x [] t = t
-    to_distinct x (y ∷ xs) t = go (λ u. to_distinct x xs u) (any (same y) xs) refl
+    to_distinct x (y ∷ xs) t = go (λ u. to_distinct x xs u) (list_any (same y) xs) refl
       where
-        go : (In x xs → In x (distinct same xs)) → (b : Bool) → any (same y) xs ≡ b → In x (cond b (distinct same xs) (y ∷ distinct same xs))
+        go : (In x xs → In x (distinct same xs)) → (b : Bool) → list_any (same y) xs ≡ b → In x (cond b (distinct same xs) (y ∷ distinct same xs))
         go ih true e =
             ⊎_elim
             (λ v. ih (subst (λ (z : A). In z xs) (sym (tells x y v)) (rw e tt)))
             ih
-            (or_either (same x y) (any (same x) xs) t)
+            (or_either (same x y) (list_any (same x) xs) t)
         go ih false e =
             ⊎_elim
-            (λ v. or_left (same x y) (any (same x) (distinct same xs)) v)
-            (λ v. or_right (same x y) (any (same x) (distinct same xs)) (ih v))
-            (or_either (same x y) (any (same x) xs) t)
+            (λ v. or_left (same x y) (list_any (same x) (distinct same xs)) v)
+            (λ v. or_right (same x y) (list_any (same x) (distinct same xs)) (ih v))
+            (or_either (same x y) (list_any (same x) xs) t)
 
     pub distinct_once : (xs : List A) → Once same (distinct same xs)
     distinct_once [] = tt
-    distinct_once (y ∷ xs) = go (distinct_once xs) (any (same y) xs) refl
+    distinct_once (y ∷ xs) = go (distinct_once xs) (list_any (same y) xs) refl
       where
-        go : Once same (distinct same xs) → (b : Bool) → any (same y) xs ≡ b → Once same (cond b (distinct same xs) (y ∷ distinct same xs))
+        go : Once same (distinct same xs) → (b : Bool) → list_any (same y) xs ≡ b → Once same (cond b (distinct same xs) (y ∷ distinct same xs))
         go ih true e = ih
         go ih false e = ((λ u. subst T e (from_distinct y xs u)), ih)
 
@@ -65,7 +66,7 @@ module _ {A : Type 0} (same : A → A → Bool) where
     without_length x [] t = absurd t
     without_length x (y ∷ ys) t = go (λ u. without_length x ys u) (same x y) t
       where
-        go : (In x ys → suc (length (without x ys)) ≡ length ys) → (b : Bool) → T (b || any (same x) ys) → suc (length (cond b ys (y ∷ without x ys))) ≡ suc (length ys)
+        go : (In x ys → suc (length (without x ys)) ≡ length ys) → (b : Bool) → T (b || list_any (same x) ys) → suc (length (cond b ys (y ∷ without x ys))) ≡ suc (length ys)
         go ih true u = refl
         go ih false u = ap suc (ih u)
 
@@ -79,20 +80,20 @@ module _ {A : Type 0} (same : A → A → Bool) where
             ⊎_elim
             (λ v. absurd (ne (tells z y v ∙ sym (tells x y (rw e tt)))))
             (λ v. v)
-            (or_either (same z y) (any (same z) ys) t)
+            (or_either (same z y) (list_any (same z) ys) t)
         go ih false e =
             ⊎_elim
-            (λ v. or_left (same z y) (any (same z) (without x ys)) v)
-            (λ v. or_right (same z y) (any (same z) (without x ys)) (ih v))
-            (or_either (same z y) (any (same z) ys) t)
+            (λ v. or_left (same z y) (list_any (same z) (without x ys)) v)
+            (λ v. or_right (same z y) (list_any (same z) (without x ys)) (ih v))
+            (or_either (same z y) (list_any (same z) ys) t)
 
     -- a list without repetitions is no longer than one that holds all of it
     pub fits : (xs ys : List A) → Once same xs → ((z : A) → In z xs → In z ys) → length xs ≤ length ys
     fits [] ys o i = omega arith
     fits (x ∷ xs) ys o i =
-        let e = without_length x ys (i x (or_left (same x x) (any (same x) xs) (self x))) in
+        let e = without_length x ys (i x (or_left (same x x) (list_any (same x) xs) (self x))) in
         let l = fits xs (without x ys) o.1
-        (λ z t. without_in x z ys (λ q. o.0 (subst (λ (a : A). In a xs) q t)) (i z (or_right (same z x) (any (same z) xs) t))) in
+        (λ z t. without_in x z ys (λ q. o.0 (subst (λ (a : A). In a xs) q t)) (i z (or_right (same z x) (list_any (same z) xs) t))) in
         omega arith
 
     -- two that hold the same are equally long
@@ -102,37 +103,37 @@ module _ {A : Type 0} (same : A → A → Bool) where
     pub once_append : (xs ys : List A) → Once same xs → Once same ys → ((z : A) → In z xs → In z ys → ⊥) → Once same (xs ++ ys)
     once_append [] ys o p n = p
     once_append (x ∷ xs) ys o p n = (
-      (λ t. ⊎_elim (λ u. o.0 u) (λ u. n x (or_left (same x x) (any (same x) xs) (self x)) u) (in_either x xs ys t)),
-      once_append xs ys o.1 p (λ z t u. n z (or_right (same z x) (any (same z) xs) t) u),
+      (λ t. ⊎_elim (λ u. o.0 u) (λ u. n x (or_left (same x x) (list_any (same x) xs) (self x)) u) (in_either x xs ys t)),
+      once_append xs ys o.1 p (λ z t u. n z (or_right (same z x) (list_any (same z) xs) t) u),
     )
 
-    pub from_keep : (f : A → Bool) (x : A) (xs : List A) → In x (keep f xs) → In x xs × T (f x)
-    from_keep f x [] t = absurd t
-    from_keep f x (y ∷ xs) t = go (λ u. from_keep f x xs u) (f y) refl t
+    pub from_filter : (f : A → Bool) (x : A) (xs : List A) → In x (filter f xs) → In x xs × T (f x)
+    from_filter f x [] t = absurd t
+    from_filter f x (y ∷ xs) t = go (λ u. from_filter f x xs u) (f y) refl t
       where
         IH : Type 0
-        IH = In x (keep f xs) → In x xs × T (f x)
+        IH = In x (filter f xs) → In x xs × T (f x)
 
-        go : IH → (b : Bool) → f y ≡ b → In x (cond b (y ∷ keep f xs) (keep f xs)) → T (same x y || any (same x) xs) × T (f x)
+        go : IH → (b : Bool) → f y ≡ b → In x (cond b (y ∷ filter f xs) (filter f xs)) → T (same x y || list_any (same x) xs) × T (f x)
         go ih true e u =
             ⊎_elim
-            (λ v. (or_left (same x y) (any (same x) xs) v, subst (λ (z : A). T (f z)) (sym (tells x y v)) (rw e tt)))
-            (λ v. (or_right (same x y) (any (same x) xs) (ih v).0, (ih v).1))
-            (or_either (same x y) (any (same x) (keep f xs)) u)
-        go ih false e u = (or_right (same x y) (any (same x) xs) (ih u).0, (ih u).1)
+            (λ v. (or_left (same x y) (list_any (same x) xs) v, subst (λ (z : A). T (f z)) (sym (tells x y v)) (rw e tt)))
+            (λ v. (or_right (same x y) (list_any (same x) xs) (ih v).0, (ih v).1))
+            (or_either (same x y) (list_any (same x) (filter f xs)) u)
+        go ih false e u = (or_right (same x y) (list_any (same x) xs) (ih u).0, (ih u).1)
 
-    pub to_keep : (f : A → Bool) (x : A) (xs : List A) → In x xs → T (f x) → In x (keep f xs)
-    to_keep f x [] t u = t
-    to_keep f x (y ∷ xs) t u = go (λ v. to_keep f x xs v u) (f y) refl
+    pub to_filter : (f : A → Bool) (x : A) (xs : List A) → In x xs → T (f x) → In x (filter f xs)
+    to_filter f x [] t u = t
+    to_filter f x (y ∷ xs) t u = go (λ v. to_filter f x xs v u) (f y) refl
       where
-        go : (In x xs → In x (keep f xs)) → (b : Bool) → f y ≡ b → In x (cond b (y ∷ keep f xs) (keep f xs))
+        go : (In x xs → In x (filter f xs)) → (b : Bool) → f y ≡ b → In x (cond b (y ∷ filter f xs) (filter f xs))
         go ih true e =
             ⊎_elim
-            (λ v. or_left (same x y) (any (same x) (keep f xs)) v)
-            (λ v. or_right (same x y) (any (same x) (keep f xs)) (ih v))
-            (or_either (same x y) (any (same x) xs) t)
+            (λ v. or_left (same x y) (list_any (same x) (filter f xs)) v)
+            (λ v. or_right (same x y) (list_any (same x) (filter f xs)) (ih v))
+            (or_either (same x y) (list_any (same x) xs) t)
         go ih false e =
             ⊎_elim
             (λ v. absurd (subst T (ap f (tells x y v) ∙ e) u))
             ih
-            (or_either (same x y) (any (same x) xs) t)
+            (or_either (same x y) (list_any (same x) xs) t)

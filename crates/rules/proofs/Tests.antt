@@ -1,10 +1,6 @@
 -- Tests joined by && and ||.
 use Rattle.std.proofs.Common.{◌≡◌, Bool, true, false, not, ◌&&◌, ◌||◌, T, ◌⊎◌, refl, inl, inr}
 
-pub and_both : (a b : Bool) → T a → T b → T (a && b)
-and_both true b p q = q
-and_both false b p q = p
-
 pub and_left : (a b : Bool) → T (a && b) → T a
 and_left true b p = tt
 and_left false b p = p

@@ -1,8 +1,8 @@
 -- The bytes of views.
 use Rattle.std.proofs.Common.{◌≡◌, ℕ, ◌+◌, ◌*◌, ◌/◌, ◌%◌, ◌<◌, ◌≤◌, Bool, true, false, cond, ltb, List, [], ◌∷◌, ◌++◌, map, get_or, refl, ap, ◌∙◌, mul_comm, arith, ltb-false, ltb-true}
-use Rattle.std.specs.List.{AllByRecursion}
+use Rattle.std.specs.List.{AllByRecursion, flat_map}
 use Rattle.std.proofs.Math.ListN.{length-map}
-use Rattle.rules.specs.Lists.{below, gather}
+use Rattle.rules.specs.Lists.{below}
 use Rattle.rules.specs.Dots.{Dot, Sound}
 use Rattle.rules.specs.Pictures.{flat_dot}
 use Rattle.rules.specs.Bytes.{colour, mask, paper_bytes, mask_byte}
@@ -10,11 +10,11 @@ use Rattle.rules.specs.ViewLaws.{spelt, DecimalsSpell, RowLengths, RowsBytes, Ma
 use Rattle.rules.proofs.Bits.{binary_below, binary_back}
 use Rattle.rules.proofs.Inks.{paper_byte}
 use Rattle.rules.proofs.Draws.{flat_sound}
-use Rattle.rules.proofs.Members.{length_row, length_gather}
+use Rattle.rules.proofs.Members.{length_row, length-flat_map_same}
 
 pub row_lengths : RowLengths
 row_lengths = record {
-  colours = λ w s y. length_gather (λ x. paper_bytes (flat_dot s x y)) 3 (λ x. refl) (below w) ∙ ap (λ n. n * 3) (length_row 0 w) ∙ mul_comm w 3;
+  colours = λ w s y. length-flat_map_same (λ x. paper_bytes (flat_dot s x y)) 3 (λ x. refl) (below w) ∙ ap (λ n. n * 3) (length_row 0 w) ∙ mul_comm w 3;
   masks = λ w s y. length-map (below ((w + 7) / 8)) (mask_byte s y) ∙ length_row 0 ((w + 7) / 8);
 }
 
@@ -23,9 +23,9 @@ all_append : {A : Type 0} (P : A → Type 0) (xs ys : List A) → AllByRecursion
 all_append P [] ys a b = b
 all_append P (x ∷ xs) ys a b = (a.0, all_append P xs ys a.1 b)
 
-all_gather : {A B : Type 0} (P : B → Type 0) (f : A → List B) → ((a : A) → AllByRecursion P (f a)) → (xs : List A) → AllByRecursion P (gather f xs)
-all_gather P f k [] = tt
-all_gather P f k (x ∷ xs) = all_append P (f x) (gather f xs) (k x) (all_gather P f k xs)
+all_flat_map : {A B : Type 0} (P : B → Type 0) (f : A → List B) → ((a : A) → AllByRecursion P (f a)) → (xs : List A) → AllByRecursion P (flat_map f xs)
+all_flat_map P f k [] = tt
+all_flat_map P f k (x ∷ xs) = all_append P (f x) (flat_map f xs) (k x) (all_flat_map P f k xs)
 
 all_map : {A B : Type 0} (P : B → Type 0) (f : A → B) → ((a : A) → P (f a)) → (xs : List A) → AllByRecursion P (map f xs)
 all_map P f k [] = tt
@@ -39,7 +39,7 @@ three d s = (byte (paper_byte d.red d s s.red_covered), (byte (paper_byte d.gree
 
 pub rows_bytes : RowsBytes
 rows_bytes colour w s y k =
-    all_gather (λ b. b < 256) (λ x. paper_bytes (flat_dot s x y))
+    all_flat_map (λ b. b < 256) (λ x. paper_bytes (flat_dot s x y))
     (λ x. three (flat_dot s x y) (flat_sound s k x y))
     (below w)
 rows_bytes mask w s y k = all_map (λ b. b < 256) (mask_byte s y) (λ j. binary_below 8 (λ b. s.protected (8 * j + b) y)) (below ((w + 7) / 8))

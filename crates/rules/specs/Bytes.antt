@@ -4,7 +4,8 @@
 --   mask      the frisket, as a binary PBM (P4): eight dots a byte, the leftmost highest, 1 protected, spare bits 0
 --   written   what a buffer holds after some bytes were written to its start
 use Rattle.std.specs.Prelude.{ℕ, zero, suc, ◌+◌, ◌*◌, ◌/◌, ◌%◌, cond, List, [], ◌∷◌, ◌++◌, map, length, drop, nat_lt}
-use Rattle.rules.specs.Lists.{below, gather, binary}
+use Rattle.std.specs.List.{flat_map}
+use Rattle.rules.specs.Lists.{below, binary}
 use Rattle.rules.specs.Dots.{Dot, on_paper}
 use Rattle.rules.specs.Sheets.{Sheet}
 use Rattle.rules.specs.Pictures.{flat_dot}
@@ -38,7 +39,7 @@ mask_byte s y k = binary 8 (λ b. s.protected (8 * k + b) y)
 
 -- the bytes of row y of a view of a sheet of width w
 abbrev pub row_bytes : Kind → ℕ → Sheet → ℕ → List ℕ
-row_bytes colour w s y = gather (λ x. paper_bytes (flat_dot s x y)) (below w)
+row_bytes colour w s y = flat_map (λ x. paper_bytes (flat_dot s x y)) (below w)
 row_bytes mask w s y = map (mask_byte s y) (below ((w + 7) / 8))
 
 -- bytes past those written keep their contents

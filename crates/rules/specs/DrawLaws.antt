@@ -1,9 +1,8 @@
 -- What is proved of edits and of drawn sheets.
 use Rattle.std.specs.Prelude.{◌≡◌, ℕ, ◌/◌, ◌^◌, ◌<◌, ◌≤◌, Bool, false, not, T, ◌↔◌, List, [], ◌≢◌, nat_eq}
 use Rattle.std.proofs.Math.Option.{Option, none, some}
+use Rattle.std.specs.List.{AllByRecursion, list_any}
 use Rattle.rules.specs.Pictures.{inked, box, flat_dot}
-use Rattle.std.specs.List.{AllByRecursion}
-use Rattle.rules.specs.Lists.{any}
 use Rattle.rules.specs.Dots.{Sound, blank}
 use Rattle.rules.specs.Cells.{depth}
 use Rattle.rules.specs.Lines.{Point, on_sheet}
@@ -78,7 +77,7 @@ Differs w h e s tree i = word_of s tree i ≡ word_of (draw w h e s) tree i → 
 -- of all cells of all ten trees, those whose word differs are the listed cells of the edit's own tree
 abbrev pub ChangedMeans : Type 0
 ChangedMeans = (w h : ℕ) (e : Edit) (s : Sheet) → Layered e → OffSheet w h s → (tree i : ℕ) → tree < 10 → i < 16 ^ depth tree
-    → Differs w h e s tree i ↔ ((tree ≡ tree_of e) × T (any (nat_eq i) (changed w h e s)))
+    → Differs w h e s tree i ↔ ((tree ≡ tree_of e) × T (list_any (nat_eq i) (changed w h e s)))
 
 -- an edit changes a cell of the stretch
 pub record Touches (w h : ℕ) (e : Edit) (s : Sheet) (q : Stretch) : Type 0 where

@@ -6,7 +6,8 @@
 --   covered     on the sheet, and in the square of the pen's side round some dot of the trail
 --   rectangle   given by two corners, both included, in either order
 use Rattle.std.specs.Prelude.{ℕ, suc, ◌+◌, ◌-◌, ◌*◌, ◌/◌, min, max, Bool, cond, ◌&&◌, List, [], ◌∷◌, ◌++◌, map, ◌==◌, nat_le, nat_lt}
-use Rattle.rules.specs.Lists.{below, any, apart}
+use Rattle.std.specs.List.{list_any}
+use Rattle.rules.specs.Lists.{below, apart}
 
 abbrev pub Point : Type 0
 Point = ℕ × ℕ
@@ -43,7 +44,7 @@ on_sheet w h p = nat_lt p.0 w && nat_lt p.1 h
 
 -- whether a stroke through the points with a pen of that side covers (x, y)
 abbrev pub covers : ℕ → ℕ → ℕ → List Point → ℕ → ℕ → Bool
-covers w h side points x y = on_sheet w h (x, y) && any (in_square side x y) (trail points)
+covers w h side points x y = on_sheet w h (x, y) && list_any (in_square side x y) (trail points)
 
 -- whether (x, y) lies in the rectangle of two corners
 abbrev pub in_rectangle : Point → Point → ℕ → ℕ → Bool

@@ -3,12 +3,10 @@
 --   row_of a n   the numbers a, a + 1, .., n of them
 --   below n      the numbers 0 to n - 1
 --   apart a b    the distance between two numbers
---   any          a test passes somewhere on a list
---   keep         what of a list passes a test
 --   distinct     a list without its repetitions
---   gather       lists joined, one for each element
 --   Once         nothing stands on a list twice
-use Rattle.std.specs.Prelude.{ℕ, zero, suc, ◌+◌, ◌-◌, ◌*◌, ◌/◌, ◌%◌, ◌^◌, Bool, true, false, cond, ◌||◌, T, List, [], ◌∷◌, ◌++◌, ◌==◌}
+use Rattle.std.specs.Prelude.{ℕ, zero, suc, ◌+◌, ◌-◌, ◌*◌, ◌/◌, ◌%◌, ◌^◌, Bool, true, false, cond, T, List, [], ◌∷◌, ◌==◌}
+use Rattle.std.specs.List.{list_any}
 
 abbrev pub row_of : ℕ → ℕ → List ℕ
 row_of a zero = []
@@ -40,28 +38,16 @@ abbrev pub binary_digit : ℕ → ℕ → ℕ → Bool
 binary_digit n v b = v / 2 ^ (n - 1 - b) % 2 == 1
 
 module _ {A : Type 0} where
-  abbrev pub any : (A → Bool) → List A → Bool
-  any f [] = false
-  any f (x ∷ xs) = f x || any f xs
-
-  abbrev pub keep : (A → Bool) → List A → List A
-  keep f [] = []
-  keep f (x ∷ xs) = cond (f x) (x ∷ keep f xs) (keep f xs)
-
   -- by a test of sameness
   abbrev pub distinct : (A → A → Bool) → List A → List A
   distinct same [] = []
-  distinct same (x ∷ xs) = cond (any (same x) xs) (distinct same xs) (x ∷ distinct same xs)
+  distinct same (x ∷ xs) = cond (list_any (same x) xs) (distinct same xs) (x ∷ distinct same xs)
 
   -- whether nothing is on the list
   abbrev pub none_of : List A → Bool
   none_of [] = true
   none_of (x ∷ xs) = false
 
-  abbrev pub gather : {B : Type 0} → (A → List B) → List A → List B
-  gather f [] = []
-  gather f (x ∷ xs) = f x ++ gather f xs
-
   abbrev pub Once : (A → A → Bool) → List A → Type 0
   Once same [] = Unit {0}
-  Once same (x ∷ xs) = (T (any (same x) xs) → ⊥) × Once same xs
+  Once same (x ∷ xs) = (T (list_any (same x) xs) → ⊥) × Once same xs

@@ -5,7 +5,8 @@
 --   box        the smallest rectangle round a layer's inked dots, by its corners at the top left and the bottom right
 use Rattle.std.specs.Prelude.{ℕ, min, max, not, List, [], ◌∷◌, map, length}
 use Rattle.std.proofs.Math.Option.{Option, none, some}
-use Rattle.rules.specs.Lists.{below, keep, total}
+use Rattle.std.specs.List.{filter}
+use Rattle.rules.specs.Lists.{below, total}
 use Rattle.rules.specs.Dots.{Dot, blank, same_dot, over, laid, faded}
 use Rattle.rules.specs.Lines.{Point}
 use Rattle.rules.specs.Reach.{points_on}
@@ -27,7 +28,7 @@ flat_dot s x y = layers_over s x y blank (below 8)
 
 -- the inked dots of a layer
 abbrev pub inked : ℕ → ℕ → Sheet → ℕ → List Point
-inked w h s l = keep (λ p. not (same_dot (s.dot l p.0 p.1) blank)) (points_on w h)
+inked w h s l = filter (λ p. not (same_dot (s.dot l p.0 p.1) blank)) (points_on w h)
 
 -- the number of inked dots over all layers
 abbrev pub inked_count : ℕ → ℕ → Sheet → ℕ

@@ -8,7 +8,7 @@
 --   changed   a cell is changed by an edit when its word differs after it
 use Rattle.std.specs.Prelude.{ℕ, Bool, false, cond, not, ◌&&◌, List, [], ◌∷◌, ◌==◌, nat_lt}
 use Rattle.std.proofs.Math.Option.{Option, none, some}
-use Rattle.rules.specs.Lists.{keep}
+use Rattle.std.specs.List.{filter}
 use Rattle.rules.specs.Dots.{Dot, blank, same_dot, laid}
 use Rattle.rules.specs.Pens.{Pen}
 use Rattle.rules.specs.Cells.{dot_word, dot_column, dot_row, strip_word, strip_at, record_word, strips, records, cells_on}
@@ -83,4 +83,4 @@ tree_of (layer l o) = records
 abbrev pub changed : ℕ → ℕ → Edit → Sheet → List ℕ
 changed w h e s =
     let t = draw w h e s in
-    keep (λ i. not (word_of s (tree_of e) i == word_of t (tree_of e) i)) (cells_on w h (tree_of e))
+    filter (λ i. not (word_of s (tree_of e) i == word_of t (tree_of e) i)) (cells_on w h (tree_of e))

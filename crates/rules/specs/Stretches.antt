@@ -5,7 +5,8 @@
 --   touched   the stretches that hold a changed cell
 --   need      the blocks that an edit takes: one for the snapshot, and one for each stretch that it touches
 use Rattle.std.specs.Prelude.{ℕ, ◌+◌, ◌-◌, ◌/◌, ◌^◌, ◌<◌, ◌≤◌, Bool, ◌&&◌, List, map, length, ◌==◌}
-use Rattle.rules.specs.Lists.{any, distinct, gather, row_of}
+use Rattle.std.specs.List.{flat_map, list_any}
+use Rattle.rules.specs.Lists.{distinct, row_of}
 use Rattle.rules.specs.Cells.{depth}
 use Rattle.rules.specs.Sheets.{Sheet, Edit, tree_of, changed}
 
@@ -32,11 +33,11 @@ abbrev pub stretches_of : ℕ → ℕ → List Stretch
 stretches_of tree i = map (stretch_at tree i) (row_of 1 (depth tree))
 
 abbrev pub touched : ℕ → ℕ → Edit → Sheet → List Stretch
-touched w h e s = distinct same_stretch (gather (stretches_of (tree_of e)) (changed w h e s))
+touched w h e s = distinct same_stretch (flat_map (stretches_of (tree_of e)) (changed w h e s))
 
 -- whether an edit touches a stretch
 abbrev pub touches : ℕ → ℕ → Edit → Sheet → Stretch → Bool
-touches w h e s q = any (same_stretch q) (touched w h e s)
+touches w h e s q = list_any (same_stretch q) (touched w h e s)
 
 abbrev pub need : ℕ → ℕ → Edit → Sheet → ℕ
 need w h e s = 1 + length (touched w h e s)

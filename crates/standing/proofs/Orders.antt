@@ -1,12 +1,11 @@
 -- Of snapshots that stand in the order of their making the one made latest is the last.
 use Rattle.std.proofs.Common.{◌≡◌, ℕ, ◌<◌, Bool, true, false, cond, eqb, List, [], ◌∷◌, Some, None, sym, refl, ap, ◌∙◌, lt-ltb}
 use Rattle.std.proofs.Math.Option.{Option, none, some}
-use Rattle.std.specs.List.{AllByRecursion}
+use Rattle.std.specs.List.{AllByRecursion, filter}
 use Rattle.std.specs.declared.option.Option as option
-use Rattle.rules.specs.Lists.{keep}
+use Rattle.std.specs.Option.{option_or}
 use Rattle.history.specs.Histories.{Snapshot, last_place, stands_under, latest_from}
 use Rattle.calls.specs.Told.{maybe}
-use Rattle.std.specs.Option.{option_or}
 use Rattle.table.specs.Tables.{parent_at, is_number}
 use Rattle.table.specs.declared.records.Snapshot as table
 use Rattle.standing.specs.Standing.{Ordered}
@@ -21,20 +20,20 @@ last_is_latest p [] o = refl
 last_is_latest p (q ∷ qs) o =
     ap (λ b. latest_from (cond b q p) qs) (lt-ltb (last_place p.line) (last_place q.line) o.0.0) ∙ last_is_latest q qs o.1
 
-keep_all : {A : Type 0} (P : A → Type 0) (f : A → Bool) (xs : List A) → AllByRecursion P xs → AllByRecursion P (keep f xs)
-keep_all P f [] a = tt
-keep_all {A} P f (x ∷ xs) a = go (f x) (keep_all P f xs a.1)
+all_filter : {A : Type 0} (P : A → Type 0) (f : A → Bool) (xs : List A) → AllByRecursion P xs → AllByRecursion P (filter f xs)
+all_filter P f [] a = tt
+all_filter {A} P f (x ∷ xs) a = go (f x) (all_filter P f xs a.1)
   where
-    go : (b : Bool) → AllByRecursion P (keep f xs) → AllByRecursion P (cond b (x ∷ keep f xs) (keep f xs))
+    go : (b : Bool) → AllByRecursion P (filter f xs) → AllByRecursion P (cond b (x ∷ filter f xs) (filter f xs))
     go true r = (a.0, r)
     go false r = r
 
-pub keep_ordered : (f : Snapshot → Bool) (ps : List Snapshot) → Ordered ps → Ordered (keep f ps)
-keep_ordered f [] o = tt
-keep_ordered f (p ∷ ps) o = go (f p) (keep_ordered f ps o.1)
+pub filter_ordered : (f : Snapshot → Bool) (ps : List Snapshot) → Ordered ps → Ordered (filter f ps)
+filter_ordered f [] o = tt
+filter_ordered f (p ∷ ps) o = go (f p) (filter_ordered f ps o.1)
   where
-    go : (b : Bool) → Ordered (keep f ps) → Ordered (cond b (p ∷ keep f ps) (keep f ps))
-    go true r = (keep_all (λ q. last_place p.line < last_place q.line) f ps o.0, r)
+    go : (b : Bool) → Ordered (filter f ps) → Ordered (cond b (p ∷ filter f ps) (filter f ps))
+    go true r = (all_filter (λ q. last_place p.line < last_place q.line) f ps o.0, r)
     go false r = r
 
 -- whether a snapshot of the table stands under s

@@ -1,6 +1,5 @@
 // The order in which the live snapshots were made.
-ghost use Rattle.std.specs.Prelude.{◌≡◌, ◌<◌, ◌≤◌, [], ◌∷◌, ◌++◌, length};
-ghost use Rattle.rules.specs.Lists.{keep};
+ghost use Rattle.std.specs.Prelude.{◌≡◌, ◌<◌, ◌≤◌, [], ◌∷◌, ◌++◌, length, filter};
 ghost use Rattle.table.specs.Tables.{but};
 
 use std::marker::Model;
@@ -62,7 +61,7 @@ impl Order {
 
     // Strikes a number.
     pub(crate) fn strike(&mut self, number: u8)
-        ensures { self.new.made ≡ keep (but number) self.old.made }
+        ensures { self.new.made ≡ filter (but number) self.old.made }
     {
         let mut kept = Order::new();
         for other in self.numbers() {

@@ -1,6 +1,5 @@
 // The table, and what is done with it.
-ghost use Rattle.std.specs.Prelude.{◌≡◌, ℕ, ◌<◌, [], ◌∷◌, ◌++◌, map, length, slice_set, option_map};
-ghost use Rattle.rules.specs.Lists.{keep};
+ghost use Rattle.std.specs.Prelude.{◌≡◌, ℕ, ◌<◌, [], ◌∷◌, ◌++◌, map, length, slice_set, option_map, filter};
 ghost use Rattle.table.specs.Tables.{at, but, last_under, moved_up, parent_at};
 
 use crate::orders::Order;
@@ -54,7 +53,7 @@ impl Table {
     // Ends a snapshot: its place is empty, and those that stood under it stand under its parent.
     pub fn remove(&mut self, number: u8)
         ensures snapshots { number < 64 → self.new.snapshots ≡ slice_set (map (option_map (moved_up number (parent_at self.old.snapshots number))) self.old.snapshots) number None }
-        ensures made { number < 64 → self.new.order.made ≡ keep (but number) self.old.order.made }
+        ensures made { number < 64 → self.new.order.made ≡ filter (but number) self.old.order.made }
     {
         if number < 64 {
             let parent = self.parent(number);

@@ -5,7 +5,7 @@
 --   grey     (200, 200, 200, 255)
 --   stroke   black of side 1 from (0, 0) to (5, 0) on layer 0
 use Rattle.std.specs.Prelude.{ℕ, ◌≡◌, List, [], ◌∷◌, map}
-use Rattle.rules.specs.Lists.{gather}
+use Rattle.std.specs.List.{flat_map}
 use Rattle.rules.specs.Dots.{Dot, over, erase, laid, faded}
 use Rattle.rules.specs.Pens.{Pen, black}
 use Rattle.rules.specs.Cells.{dot_index}
@@ -26,7 +26,7 @@ channels d = d.red ∷ d.green ∷ d.blue ∷ d.alpha ∷ []
 
 -- points as their columns and rows in turn, and as their rows alone
 abbrev pub pairs : List Point → List ℕ
-pairs ps = gather (λ p. p.0 ∷ p.1 ∷ []) ps
+pairs ps = flat_map (λ p. p.0 ∷ p.1 ∷ []) ps
 
 abbrev pub rows : List Point → List ℕ
 rows ps = map (λ p. p.1) ps
