@@ -9,7 +9,8 @@ use Rattle.block.specs.Blocks.{sum_to}
 use Rattle.block.proofs.Sums.{sum_same}
 use Rattle.forest.specs.Plans.{any_to}
 use Rattle.count.specs.Tally.{bit, live, distinct, tally}
-use Rattle.count.proofs.Sums.{image, any_some, any_at}
+use Rattle.forest.proofs.Counts.{any_at}
+use Rattle.count.proofs.Sums.{image, any_some}
 use Rattle.count.proofs.Totals.{stretches_same}
 use Rattle.root.specs.Sheets.{places}
 use Rattle.rules.specs.Lists.{Once}

@@ -6,7 +6,8 @@ use Rattle.std.proofs.Math.Dec.{eqb_refl, not_T}
 use Rattle.std.specs.List.{flat_map}
 use Rattle.forest.specs.Plans.{any_to}
 use Rattle.count.specs.Tally.{bit, all_stretches}
-use Rattle.count.proofs.Sums.{any_some, any_at}
+use Rattle.forest.proofs.Counts.{any_at}
+use Rattle.count.proofs.Sums.{any_some}
 use Rattle.rules.specs.Cells.{depth}
 use Rattle.rules.specs.Sheets.{Sheet, Edit, draw, tree_of, changed, word_of}
 use Rattle.rules.specs.Stretches.{same_stretch, stretches_of, touched, touches, need, Proper}
@@ -17,7 +18,7 @@ use Rattle.rules.proofs.Touched.{stretch_self, stretch_tells, tree_below, touche
 use Rattle.history.proofs.Finds.{same_truth}
 use Rattle.bridge.specs.Draws.{Draws}
 use Rattle.bridge.specs.Shows.{alters, stretch}
-use Rattle.bridge.proofs.Shows.{inside}
+use Rattle.count.proofs.Laws.{inside}
 use Rattle.bridge.proofs.Lengths.{stretch_length}
 
 -- a quotient is known between two products

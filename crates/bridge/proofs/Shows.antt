@@ -19,6 +19,7 @@ use Rattle.count.proofs.Cells.{any_like, changes_stretch, lookup_down}
 use Rattle.count.proofs.Keeps.{put_here, put_else, alike_like, path_keeps, tied_edited, tied_forgotten}
 use Rattle.count.proofs.Edits.{keeps, stands_edited, renewed, at_root, same_else}
 use Rattle.count.proofs.Forgets.{keeps_gone, stands_forgotten}
+use Rattle.count.proofs.Laws.{inside}
 use Rattle.bridge.specs.Shows.{Shows, renewed_cells, alters}
 
 -- equal cells and last edits
@@ -29,9 +30,6 @@ shows_like deep n m roots cells cells' last last' w f g = record {
   ties = λ t k q lt lk lq. alike_like n _ _ _ _ (λ s l. refl) (λ s l. g s t k q l lt lk lq) (w.ties t k q lt lk lq);
   reads = λ s t i l lt ld li. w.reads s t i l lt ld li ∙ sym (f s t i l lt ld li);
 }
-
-pub inside : (a k q i : ℕ) → q < 16 ^ a → i < 16 ^ k → q * 16 ^ k + i < 16 ^ (a + k)
-inside a k q i h l = omega (arith, pow-add 16 a k, mul-le-mul_right (16 ^ k) h, suc-mul q (16 ^ k), l)
 
 module _ (deep : ℕ → ℕ) (n : ℕ) (m : Blocks) (roots : ℕ → ℕ) (cells : ℕ → ℕ → ℕ → ℕ) (last : Last) (w : Shows deep n m roots cells last) (h : ℕ) (hh : h < n) (tree : ℕ) (new : ℕ → ℕ → ℕ) where
   -- what the rebuild changes is what the edit alters

@@ -1,6 +1,7 @@
 -- A stretch changes where one of its cells does.
 use Rattle.std.proofs.Common.{◌≡◌, ℕ, zero, suc, ◌+◌, ◌-◌, ◌*◌, ◌/◌, ◌%◌, ◌^◌, ◌<◌, ◌≤◌, Bool, true, false, ◌||◌, List, [], ◌∷◌, ◌++◌, sym, refl, ap, ◌∙◌, mul_assoc, suc-mul, mul_comm, add-mul, pow-suc, arith}
 use Rattle.std.proofs.Math.Nat.{div-div-eq-div-mul}
+use Rattle.std.proofs.Math.Bool.{or-false}
 use Rattle.block.specs.Blocks.{Blocks}
 use Rattle.forest.proofs.Digits.{power_suc}
 use Rattle.forest.specs.Trees.{child, look, digits, lookup}
@@ -17,17 +18,13 @@ or_assoc : (a b c : Bool) → (a || (b || c)) ≡ ((a || b) || c)
 or_assoc true b c = refl
 or_assoc false b c = refl
 
-or_false : (x : Bool) → (x || false) ≡ x
-or_false true = refl
-or_false false = refl
-
 any_parts : (a b : ℕ) (f : ℕ → Bool) → any_to (a * b) f ≡ any_to a (λ j. any_to b (λ q. f (j * b + q)))
 any_parts zero b f = let e : zero * b ≡ 0 = omega arith in ap (λ (x : ℕ). any_to x f) e
 any_parts (suc a) b f =
     ap (λ (x : ℕ). any_to x f) (suc-mul a b) ∙ more b ∙ ap (λ t. t || any_to b (λ q. f (a * b + q))) (any_parts a b f)
   where
     more : (c : ℕ) → any_to (a * b + c) f ≡ (any_to (a * b) f || any_to c (λ q. f (a * b + q)))
-    more zero = (let e : a * b + 0 ≡ a * b = omega arith in ap (λ (x : ℕ). any_to x f) e) ∙ sym (or_false (any_to (a * b) f))
+    more zero = (let e : a * b + 0 ≡ a * b = omega arith in ap (λ (x : ℕ). any_to x f) e) ∙ sym (or-false (any_to (a * b) f))
     more (suc c) = (let e : a * b + suc c ≡ suc (a * b + c) = omega arith in ap (λ (x : ℕ). any_to x f) e) ∙ ap (λ t. t || f (a * b + c)) (more c) ∙ sym (or_assoc (any_to (a * b) f) (any_to c (λ q. f (a * b + q))) (f (a * b + c)))
 
 pub changes_cells : (new : ℕ → ℕ → ℕ) (m : Blocks) (k p a : ℕ) → changes new m k p a ≡ any_to (16 ^ k) (λ i. differs new (a * 16 ^ k + i) (down m p k i))

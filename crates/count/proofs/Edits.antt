@@ -1,5 +1,5 @@
 -- A new snapshot: one tree of the head is rebuilt, and a root block is filled with it and the head's other trees.
-use Rattle.std.proofs.Common.{◌≡◌, ℕ, zero, suc, ◌+◌, ◌-◌, ◌*◌, ◌/◌, ◌%◌, ◌^◌, ◌<◌, ◌≤◌, Bool, false, cond, ◌≢◌, sym, refl, ap, ◌∙◌, subst, pow-suc, arith, eq-eqb, ne_eqb}
+use Rattle.std.proofs.Common.{◌≡◌, ℕ, zero, suc, ◌+◌, ◌-◌, ◌*◌, ◌/◌, ◌%◌, ◌^◌, ◌<◌, ◌≤◌, Bool, false, cond, ◌≢◌, sym, refl, ap, ◌∙◌, subst, pow-suc, arith, eq-eqb, ne_eqb, true≢false}
 use Rattle.std.proofs.Math.Decide.{ℕ_discrete, dec_lt}
 use Rattle.block.specs.Blocks.{Blocks, Whole, sum_to}
 use Rattle.forest.specs.Trees.{child}
@@ -148,7 +148,7 @@ module _ (deep : ℕ → ℕ) (n : ℕ) (m : Blocks) (label : ℕ → Label) (ro
         | yes e ↦
             let s = subst (λ (z : ℕ). k < deep z → y < 16 ^ (deep z - suc k) → Shape new m o (suc k) (path deep m (roots h) (node z (suc k) y)) y (path deep o (suc b) (node z (suc k) y))) (sym e) (fresh_at k y) hk hy in
             s.1 (sym (ap (λ z. cond z (changes new m (suc k) (path deep m (roots h) (node v (suc k) y)) y) false) (eq-eqb v t e)) ∙ c)
-        | no e ↦ absurd (let z : ◌≡◌ {A = ℕ} 1 0 = ap (λ z. cond z 1 0) (sym c ∙ ap (λ z. cond z (changes new m (suc k) (path deep m (roots h) (node v (suc k) y)) y) false) (ne_eqb v t e)) in omega arith)
+        | no e ↦ absurd (true≢false (sym c ∙ ap (λ z. cond z (changes new m (suc k) (path deep m (roots h) (node v (suc k) y)) y) false) (ne_eqb v t e)))
       ];
       same = λ v k y l hk hy c. elim (ℕ_discrete v t) [
         | yes e ↦

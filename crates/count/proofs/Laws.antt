@@ -50,7 +50,7 @@ all_reached = reached
 pub none_held : AllFree
 none_held = all_free
 
-inside : (a k q i : ℕ) → q < 16 ^ a → i < 16 ^ k → q * 16 ^ k + i < 16 ^ (a + k)
+pub inside : (a k q i : ℕ) → q < 16 ^ a → i < 16 ^ k → q * 16 ^ k + i < 16 ^ (a + k)
 inside a k q i h l = omega (arith, pow-add 16 a k, mul-le-mul_right (16 ^ k) h, suc-mul q (16 ^ k), l)
 
 pub need_counted : NeedCounted

@@ -1,5 +1,5 @@
 -- A rebuild needs a block for each stretch that changes.
-use Rattle.std.proofs.Common.{◌≡◌, ℕ, zero, suc, ◌+◌, ◌-◌, ◌*◌, ◌/◌, ◌%◌, ◌^◌, ◌<◌, Bool, true, false, cond, sym, refl, ap, ◌∙◌, mul_assoc, suc-mul, mul_comm, add-mul, pow-suc, arith}
+use Rattle.std.proofs.Common.{◌≡◌, ℕ, zero, suc, ◌+◌, ◌-◌, ◌*◌, ◌/◌, ◌%◌, ◌^◌, ◌<◌, Bool, true, false, cond, sym, refl, ap, ◌∙◌, mul_assoc, suc-mul, mul_comm, add-mul, pow-suc, arith, true≢false}
 use Rattle.std.proofs.Math.Decide.{ℕ_discrete}
 use Rattle.std.proofs.lemmas.Bool.{cond-true, cond-false}
 use Rattle.block.specs.Blocks.{Blocks, sum_to}
@@ -9,7 +9,8 @@ use Rattle.block.proofs.Sums.{sum_same, sum_none}
 use Rattle.forest.proofs.Counts.{needed_changes}
 use Rattle.count.specs.Paths.{down}
 use Rattle.count.specs.Tally.{bit}
-use Rattle.count.proofs.Sums.{sum_swap, any_at}
+use Rattle.forest.proofs.Counts.{any_at}
+use Rattle.count.proofs.Sums.{sum_swap}
 
 -- a sum over a * b numbers, in a parts of b
 sum_parts : (a b : ℕ) (f : ℕ → ℕ) → sum_to (a * b) f ≡ sum_to a (λ j. sum_to b (λ q. f (j * b + q)))
@@ -50,7 +51,7 @@ needed_split new m k p a = go (changes new m (suc k) p a) refl
     idle : changes new m (suc k) p a ≡ false → (j : ℕ) → j < 16 → needed new m k (child m p j) (a * 16 + j) ≡ 0
     idle e j l = elim (ℕ_discrete (needed new m k (child m p j) (a * 16 + j)) 0) [
       | yes z ↦ z
-      | no d ↦ absurd (let y : ◌≡◌ {A = ℕ} 1 0 = ap bit (sym (any_at 16 (λ j. changes new m k (child m p j) (a * 16 + j)) j l (needed_changes new m k (child m p j) (a * 16 + j) (omega arith))) ∙ e) in omega arith)
+      | no d ↦ absurd (true≢false (sym (any_at 16 (λ j. changes new m k (child m p j) (a * 16 + j)) j l (needed_changes new m k (child m p j) (a * 16 + j) (omega arith))) ∙ e))
     ]
 
     go : (t : Bool) → changes new m (suc k) p a ≡ t → cond (changes new m (suc k) p a) (suc (sum_to 16 (λ j. needed new m k (child m p j) (a * 16 + j)))) 0 ≡ bit (changes new m (suc k) p a) + sum_to 16 (λ j. needed new m k (child m p j) (a * 16 + j))

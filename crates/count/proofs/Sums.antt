@@ -1,9 +1,11 @@
 -- Sums, and how many different values there are.
 use Rattle.std.proofs.Common.{◌≡◌, ℕ, zero, suc, ◌+◌, ◌<◌, ◌≤◌, Bool, true, false, cond, ◌||◌, eqb, ◌≢◌, ◌↔◌, sym, refl, ap, ◌∙◌, arith, eq-eqb, ne_eqb}
 use Rattle.std.proofs.Math.Decide.{ℕ_discrete}
+use Rattle.std.proofs.Math.Bool.{or-true, or-false}
 use Rattle.block.specs.Blocks.{sum_to}
 use Rattle.forest.specs.Plans.{any_to}
 use Rattle.block.proofs.Sums.{sum_same, sum_at, sum_none}
+use Rattle.forest.proofs.Quiets.{any_none}
 use Rattle.count.specs.Tally.{bit, live, new, distinct, Alike}
 
 pub sum_add : (n : ℕ) (f g : ℕ → ℕ) → sum_to n (λ j. f j + g j) ≡ sum_to n f + sum_to n g
@@ -27,14 +29,6 @@ sum_among (suc n) f c l h = elim (ℕ_discrete n c) [
   | no d ↦ omega (arith, h n (omega arith) d, sum_among n f c (omega arith) (λ j k. h j (omega arith)))
 ]
 
-or_false : (x : Bool) → (x || false) ≡ x
-or_false true = refl
-or_false false = refl
-
-or_true : (x : Bool) → (x || true) ≡ true
-or_true true = refl
-or_true false = refl
-
 abbrev unbit : Bool → ℕ
 unbit t = cond t 0 1
 
@@ -45,12 +39,12 @@ flip false = refl
 -- how many b below size are among f 0 .. f (n - 1), plus 1
 image_more : (size n : ℕ) (f : ℕ → ℕ) → f n ≤ size → (v : ℕ) → f n ≡ v → sum_to size (λ b. bit (any_to (suc n) (λ s. eqb (f s) (suc b)))) ≡ new n f v + sum_to size (λ b. bit (any_to n (λ s. eqb (f s) (suc b))))
 image_more size n f h zero e =
-    let s = sum_same size (λ b. bit (any_to (suc n) (λ s. eqb (f s) (suc b)))) (λ b. bit (any_to n (λ s. eqb (f s) (suc b)))) (λ b l. ap bit (ap (λ t. any_to n (λ s. eqb (f s) (suc b)) || t) (ne_eqb (f n) (suc b) (omega (arith, e))) ∙ or_false _)) in
+    let s = sum_same size (λ b. bit (any_to (suc n) (λ s. eqb (f s) (suc b)))) (λ b. bit (any_to n (λ s. eqb (f s) (suc b)))) (λ b l. ap bit (ap (λ t. any_to n (λ s. eqb (f s) (suc b)) || t) (ne_eqb (f n) (suc b) (omega (arith, e))) ∙ or-false _)) in
     omega (arith, s)
 image_more size n f h (suc c) e =
     let s = sum_at size (λ b. bit (any_to (suc n) (λ s. eqb (f s) (suc b)))) (λ b. bit (any_to n (λ s. eqb (f s) (suc b)))) c (omega (arith, h, e))
-    (λ b d. ap bit (ap (λ t. any_to n (λ s. eqb (f s) (suc b)) || t) (ne_eqb (f n) (suc b) (omega (arith, e, d))) ∙ or_false _)) in
-    let x : bit (any_to (suc n) (λ s. eqb (f s) (suc c))) ≡ 1 = ap bit (ap (λ t. any_to n (λ s. eqb (f s) (suc c)) || t) (eq-eqb (f n) (suc c) e) ∙ or_true _) in
+    (λ b d. ap bit (ap (λ t. any_to n (λ s. eqb (f s) (suc b)) || t) (ne_eqb (f n) (suc b) (omega (arith, e, d))) ∙ or-false _)) in
+    let x : bit (any_to (suc n) (λ s. eqb (f s) (suc c))) ≡ 1 = ap bit (ap (λ t. any_to n (λ s. eqb (f s) (suc c)) || t) (eq-eqb (f n) (suc c) e) ∙ or-true _) in
     let z : new n f (suc c) ≡ unbit (any_to n (λ s. eqb (f s) (suc c))) = ap (λ t. cond {A = ℕ} t 0 (cond (any_to n (λ s. eqb (f s) (suc c))) 0 1)) (ne_eqb (suc c) 0 (omega arith)) in
     omega (arith, s, x, z, flip (any_to n (λ s. eqb (f s) (suc c))))
 
@@ -78,10 +72,6 @@ distinct_alike (suc n) f g a =
     let r = distinct_alike n f g (record { none = λ s l. a.none s (omega arith); same = λ s r l k. a.same s r (omega arith) (omega arith) }) in
     ap (λ (v : ℕ). v + distinct n f) (ap (λ t. cond t 0 (cond (any_to n (λ s. eqb (f s) (f n))) 0 1)) x ∙ ap (λ t. cond (eqb (g n) 0) 0 (cond t 0 1)) y) ∙ ap (λ (v : ℕ). new n g (g n) + v) r
 
-any_false : (n : ℕ) (f : ℕ → Bool) → ((s : ℕ) → s < n → f s ≡ false) → any_to n f ≡ false
-any_false zero f h = refl
-any_false (suc n) f h = ap (λ t. t || f n) (any_false n f (λ s l. h s (omega arith))) ∙ h n (omega arith)
-
 -- of values that are all different each counts
 pub distinct_apart : (n : ℕ) (f : ℕ → ℕ) → ((s r : ℕ) → s < n → r < n → f s ≡ f r → f s ≢ 0 → s ≡ r) → distinct n f ≡ live n f
 unfolding sum_to
@@ -95,22 +85,15 @@ distinct_apart (suc n) f h =
           omega (arith, r, z, ap unbit x)
       | no d ↦
           let x = ne_eqb (f n) 0 d in
-          let y = any_false n (λ s. eqb (f s) (f n)) (λ s l. ne_eqb (f s) (f n) (λ e. omega (arith, l, h s n (omega arith) (omega arith) e (λ z. d (sym e ∙ z))))) in
+          let y = any_none n (λ s. eqb (f s) (f n)) (λ s l. ne_eqb (f s) (f n) (λ e. omega (arith, l, h s n (omega arith) (omega arith) e (λ z. d (sym e ∙ z))))) in
           let z : new n f (f n) ≡ unbit (any_to n (λ s. eqb (f s) (f n))) = ap (λ t. cond {A = ℕ} t 0 (cond (any_to n (λ s. eqb (f s) (f n))) 0 1)) x in
           omega (arith, r, z, ap unbit y, ap unbit x)
     ]
 
 pub any_some : (n : ℕ) (f : ℕ → Bool) → any_to n f ≡ true → (s : ℕ) × (s < n) × (f s ≡ true)
-any_some zero f e = absurd (let z : ◌≡◌ {A = ℕ} 0 1 = cc in omega arith)
+any_some zero f e = cc
 any_some (suc n) f e = go (any_some n f) (f n) refl
   where
     go : (any_to n f ≡ true → (s : ℕ) × (s < n) × (f s ≡ true)) → (t : Bool) → f n ≡ t → (s : ℕ) × (s < suc n) × (f s ≡ true)
     go h true y = (n, omega arith, y)
-    go h false y = let r = h (sym (or_false (any_to n f)) ∙ ap (λ t. any_to n f || t) (sym y) ∙ e) in (r.0, omega arith, r.2)
-
-pub any_at : (n : ℕ) (f : ℕ → Bool) (j : ℕ) → j < n → f j ≡ true → any_to n f ≡ true
-any_at zero f j l e = absurd (omega arith)
-any_at (suc n) f j l e = elim (ℕ_discrete j n) [
-  | yes y ↦ ap (λ t. any_to n f || t) (sym (ap f y) ∙ e) ∙ or_true (any_to n f)
-  | no d ↦ ap (λ t. t || f n) (any_at n f j (omega arith) e)
-]
+    go h false y = let r = h (sym (or-false (any_to n f)) ∙ ap (λ t. any_to n f || t) (sym y) ∙ e) in (r.0, omega arith, r.2)

@@ -2,6 +2,7 @@
 use Rattle.std.proofs.Common.{◌≡◌, ℕ, zero, suc, ◌+◌, ◌-◌, ◌/◌, ◌%◌, ◌^◌, ◌<◌, ◌≤◌, Bool, true, false, cond, ◌||◌, eqb, ◌≢◌, ◌↔◌, sym, refl, ap, ◌∙◌, arith, eq-eqb, ne_eqb}
 use Rattle.std.proofs.Math.Decide.{ℕ_discrete}
 use Rattle.std.proofs.lemmas.Bool.{eqb-true}
+use Rattle.std.proofs.Math.Bool.{or-false, or-true}
 use Rattle.block.specs.Blocks.{Blocks, sum_to, free_count, spare}
 use Rattle.forest.specs.Trees.{child}
 use Rattle.forest.specs.Balance.{Label, node}
@@ -12,7 +13,8 @@ use Rattle.count.specs.Paths.{down, path, Stands}
 use Rattle.count.specs.Tally.{live, new, distinct, all_stretches, Last, tally, Tied}
 use Rattle.count.specs.Steps.{put, changed_by, edited, Later}
 use Rattle.count.specs.Tally.{bit}
-use Rattle.count.proofs.Sums.{sum_add, sum_only, image, any_some, any_at}
+use Rattle.forest.proofs.Counts.{any_at}
+use Rattle.count.proofs.Sums.{sum_add, sum_only, image, any_some}
 use Rattle.count.proofs.Keeps.{put_here, put_else}
 use Rattle.count.proofs.Totals.{stretches_same, used_tally}
 use Rattle.count.proofs.Needs.{needed_levels}
@@ -24,17 +26,13 @@ or_swap false true false = refl
 or_swap false false true = refl
 or_swap false false false = refl
 
-or_false : (x : Bool) → (x || false) ≡ x
-or_false true = refl
-or_false false = refl
-
 any_put : (n x v b : ℕ) (f : ℕ → ℕ) → x < n → f x ≡ 0 → any_to n (λ s. eqb (put x v f s) (suc b)) ≡ (any_to n (λ s. eqb (f s) (suc b)) || eqb v (suc b))
 any_put zero x v b f l z = absurd (omega arith)
 any_put (suc n) x v b f l z = elim (ℕ_discrete n x) [
   | yes e ↦
       ap (λ t. t || eqb (put x v f n) (suc b)) (below n (omega arith)) ∙
       ap (λ (y : ℕ). any_to n (λ s. eqb (f s) (suc b)) || eqb y (suc b)) (put_here x v f n e) ∙
-      ap (λ t. t || eqb v (suc b)) (sym (ap (λ t. any_to n (λ s. eqb (f s) (suc b)) || t) (ne_eqb (f n) (suc b) (λ y. omega (arith, y, z, ap f e))) ∙ or_false (any_to n (λ s. eqb (f s) (suc b)))))
+      ap (λ t. t || eqb v (suc b)) (sym (ap (λ t. any_to n (λ s. eqb (f s) (suc b)) || t) (ne_eqb (f n) (suc b) (λ y. omega (arith, y, z, ap f e))) ∙ or-false (any_to n (λ s. eqb (f s) (suc b)))))
   | no d ↦
       ap (λ t. t || eqb (put x v f n) (suc b)) (any_put n x v b f (omega arith) z) ∙
       ap (λ (y : ℕ). (any_to n (λ s. eqb (f s) (suc b)) || eqb v (suc b)) || eqb y (suc b)) (put_else x v f n d) ∙
@@ -55,10 +53,6 @@ distinct_put n x v f l z =
     go v refl ∙
     ap (λ (y : ℕ). new n f v + y) (image (sum_to n f + v) n f (λ s k. omega (arith, at_most_sum n f s k)))
   where
-    or_true : (t : Bool) → bit (t || true) ≡ 1
-    or_true true = refl
-    or_true false = refl
-
     flip : (t : Bool) → 1 ≡ cond t 0 1 + bit t
     flip true = refl
     flip false = refl
@@ -66,13 +60,13 @@ distinct_put n x v f l z =
     go : (y : ℕ) → v ≡ y → sum_to (sum_to n f + v) (λ b. bit (any_to n (λ s. eqb (f s) (suc b)) || eqb v (suc b))) ≡ new n f v + sum_to (sum_to n f + v) (λ b. bit (any_to n (λ s. eqb (f s) (suc b))))
     go zero e =
         let a : new n f v ≡ 0 = ap (λ t. cond {A = ℕ} t 0 (cond (any_to n (λ s. eqb (f s) v)) 0 1)) (eq-eqb v 0 e) in
-        let s = sum_same (sum_to n f + v) (λ b. bit (any_to n (λ s. eqb (f s) (suc b)) || eqb v (suc b))) (λ b. bit (any_to n (λ s. eqb (f s) (suc b)))) (λ b k. ap bit (ap (λ t. any_to n (λ s. eqb (f s) (suc b)) || t) (ne_eqb v (suc b) (omega arith)) ∙ or_false (any_to n (λ s. eqb (f s) (suc b))))) in
+        let s = sum_same (sum_to n f + v) (λ b. bit (any_to n (λ s. eqb (f s) (suc b)) || eqb v (suc b))) (λ b. bit (any_to n (λ s. eqb (f s) (suc b)))) (λ b k. ap bit (ap (λ t. any_to n (λ s. eqb (f s) (suc b)) || t) (ne_eqb v (suc b) (omega arith)) ∙ or-false (any_to n (λ s. eqb (f s) (suc b))))) in
         omega (arith, a, s)
     go (suc c) e =
         let a : new n f v ≡ cond (any_to n (λ s. eqb (f s) v)) 0 1 = ap (λ t. cond {A = ℕ} t 0 (cond (any_to n (λ s. eqb (f s) v)) 0 1)) (ne_eqb v 0 (omega arith)) in
         let a₁ = ap (λ (y : ℕ). cond {A = ℕ} (any_to n (λ s. eqb (f s) y)) 0 1) e in
-        let s = sum_at (sum_to n f + v) (λ b. bit (any_to n (λ s. eqb (f s) (suc b)) || eqb v (suc b))) (λ b. bit (any_to n (λ s. eqb (f s) (suc b)))) c (omega arith) (λ b d. ap bit (ap (λ t. any_to n (λ s. eqb (f s) (suc b)) || t) (ne_eqb v (suc b) (omega arith)) ∙ or_false (any_to n (λ s. eqb (f s) (suc b))))) in
-        let y : bit (any_to n (λ s. eqb (f s) (suc c)) || eqb v (suc c)) ≡ 1 = ap (λ t. bit (any_to n (λ s. eqb (f s) (suc c)) || t)) (eq-eqb v (suc c) e) ∙ or_true (any_to n (λ s. eqb (f s) (suc c))) in
+        let s = sum_at (sum_to n f + v) (λ b. bit (any_to n (λ s. eqb (f s) (suc b)) || eqb v (suc b))) (λ b. bit (any_to n (λ s. eqb (f s) (suc b)))) c (omega arith) (λ b d. ap bit (ap (λ t. any_to n (λ s. eqb (f s) (suc b)) || t) (ne_eqb v (suc b) (omega arith)) ∙ or-false (any_to n (λ s. eqb (f s) (suc b))))) in
+        let y : bit (any_to n (λ s. eqb (f s) (suc c)) || eqb v (suc c)) ≡ 1 = ap (λ t. bit (any_to n (λ s. eqb (f s) (suc c)) || t)) (eq-eqb v (suc c) e) ∙ ap bit (or-true (any_to n (λ s. eqb (f s) (suc c)))) in
         omega (arith, a, a₁, s, y, flip (any_to n (λ s. eqb (f s) (suc c))))
 
 new_none : (n v : ℕ) (f : ℕ → ℕ) → v ≢ 0 → ((s : ℕ) → s < n → f s ≢ v) → new n f v ≡ 1

@@ -1,5 +1,5 @@
 -- As many blocks are out as the history says.
-use Rattle.std.proofs.Common.{◌≡◌, ℕ, zero, suc, ◌+◌, ◌-◌, ◌^◌, ◌<◌, ◌≤◌, Bool, true, false, cond, eqb, ◌≢◌, sym, refl, ap, ◌∙◌, arith, eq-eqb, ne_eqb}
+use Rattle.std.proofs.Common.{◌≡◌, ℕ, zero, suc, ◌+◌, ◌-◌, ◌^◌, ◌<◌, ◌≤◌, Bool, true, false, cond, eqb, ◌≢◌, sym, refl, ap, ◌∙◌, arith, eq-eqb, ne_eqb, true≢false}
 use Rattle.std.proofs.Math.Decide.{ℕ_discrete}
 use Rattle.std.proofs.lemmas.Bool.Decides.{nat_tests}
 use Rattle.std.proofs.lemmas.Bool.{eqb-true}
@@ -11,7 +11,8 @@ use Rattle.count.specs.Uses.{out, used}
 use Rattle.count.specs.Paths.{path, held_by, Stands}
 use Rattle.count.specs.Tally.{live, distinct, all_stretches, Last, tally, Tied}
 use Rattle.count.specs.Tally.{bit}
-use Rattle.count.proofs.Sums.{sum_add, sum_swap, sum_only, image, distinct_alike, distinct_apart, any_some, any_at}
+use Rattle.forest.proofs.Counts.{any_at}
+use Rattle.count.proofs.Sums.{sum_add, sum_swap, sum_only, image, distinct_alike, distinct_apart, any_some}
 use Rattle.forest.proofs.Balances.{hit_there, leads_pointer}
 use Rattle.forest.proofs.Frames.{inside}
 use Rattle.count.proofs.Founds.{Within, found, sits}
@@ -122,7 +123,7 @@ module _ (deep : ℕ → ℕ) (n : ℕ) (m : Blocks) (label : ℕ → Label) (ro
                   let f = found deep n m label roots w b (omega arith) in
                   let p = leads_pointer (label b) (path deep m (roots f.who) (label b)) b f.there in
                   let a = any_at n (λ s. eqb (path deep m (roots s) l) (suc b)) f.who f.listed (eq-eqb (path deep m (roots f.who) l) (suc b) (ap (λ x. path deep m (roots f.who) x) (sym g) ∙ p)) in
-                  absurd (let y : ◌≡◌ {A = ℕ} 1 0 = ap bit (sym a ∙ e) in omega arith)
+                  absurd (true≢false (sym a ∙ e))
             ]
       ]
 

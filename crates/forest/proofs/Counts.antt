@@ -1,8 +1,9 @@
 -- A rebuild takes as many blocks as are needed.
-use Rattle.std.proofs.Common.{◌≡◌, ℕ, zero, suc, ◌+◌, ◌-◌, ◌*◌, ◌<◌, ◌≤◌, Bool, true, false, cond, not, ◌||◌, eqb, ◌≢◌, sym, refl, ap, ◌∙◌, subst, add-one, arith, below_more}
+use Rattle.std.proofs.Common.{◌≡◌, ℕ, zero, suc, ◌+◌, ◌-◌, ◌*◌, ◌<◌, ◌≤◌, Bool, true, false, cond, not, ◌||◌, eqb, ◌≢◌, sym, refl, ap, ◌∙◌, subst, add-one, arith, below_more, true≢false}
 use Rattle.std.proofs.Math.Decide.{ℕ_discrete}
 use Rattle.std.proofs.lemmas.Bool.Decides.{nat_tests}
 use Rattle.std.proofs.lemmas.Bool.{cond-true, cond-false}
+use Rattle.std.proofs.Math.Bool.{or-true}
 use Rattle.block.specs.Blocks.{Blocks, sum_to, free_count, spare}
 use Rattle.forest.specs.Trees.{child}
 use Rattle.forest.specs.Balance.{hold, node, Points}
@@ -17,7 +18,7 @@ use Rattle.block.specs.declared.refusals.Refusal.{Refusal}
 use Rattle.block.specs.declared.refusals.Refusal.TheVariants.{NoneFree, NotOut, TooMany, NoWord}
 use Rattle.forest.proofs.Fills.{hold_one}
 use Rattle.forest.proofs.Balances.{hit_self, hit_other}
-use Rattle.forest.proofs.Rebuilds.{Part, child_grown, live_child, live_out, true_false, live_down, points_child, points_stay}
+use Rattle.forest.proofs.Rebuilds.{Part, child_grown, live_child, live_out, live_down, points_child, points_stay}
 use Rattle.forest.proofs.Reaches.{few_holders}
 
 -- f and g agree below n
@@ -31,14 +32,10 @@ any_same n f g h = ap (any_to n) (λ i j. h j i)
 pub any_more : (i : ℕ) (f : ℕ → Bool) → any_to (i + 1) f ≡ (any_to i f || f i)
 any_more i f = rw add-one
 
-or_true : (x : Bool) → (x || true) ≡ true
-or_true true = refl
-or_true false = refl
-
-any_at : (n : ℕ) (f : ℕ → Bool) (j : ℕ) → j < n → f j ≡ true → any_to n f ≡ true
+pub any_at : (n : ℕ) (f : ℕ → Bool) (j : ℕ) → j < n → f j ≡ true → any_to n f ≡ true
 any_at zero f j l e = absurd (omega arith)
 any_at (suc n) f j l e = elim (ℕ_discrete j n) [
-  | yes y ↦ ap (λ t. any_to n f || t) (sym (ap f y) ∙ e) ∙ or_true (any_to n f)
+  | yes y ↦ ap (λ t. any_to n f || t) (sym (ap f y) ∙ e) ∙ or-true (any_to n f)
   | no d ↦ ap (λ t. t || f n) (any_at n f j (omega arith) e)
 ]
 
@@ -65,13 +62,13 @@ any_each : (n : ℕ) (f : ℕ → Bool) (j : ℕ) → j < n → any_to n f ≡ f
 any_each n f j l e = go (f j) refl
   where
     go : (t : Bool) → f j ≡ t → f j ≡ false
-    go true y = absurd (true_false (sym (any_at n f j l y) ∙ e))
+    go true y = absurd (true≢false (sym (any_at n f j l y) ∙ e))
     go false y = y
 
 -- a tree in which nothing changes
 pub shape_same : (new : ℕ → ℕ → ℕ) (m : Blocks) (k p a : ℕ) → changes new m k p a ≡ false → Shape new m m k p a p
 shape_same new m zero p a h = tt
-shape_same new m (suc k) p a h = ((λ _. refl), (λ e. absurd (true_false (sym e ∙ h))), λ i l. shape_same new m k (child m p i) (a * 16 + i) (any_each 16 (λ j. changes new m k (child m p j) (a * 16 + j)) i l h))
+shape_same new m (suc k) p a h = ((λ _. refl), (λ e. absurd (true≢false (sym e ∙ h))), λ i l. shape_same new m k (child m p i) (a * 16 + i) (any_each 16 (λ j. changes new m k (child m p j) (a * 16 + j)) i l h))
 
 -- after more was built
 pub shape_grown : (new : ℕ → ℕ → ℕ) (m n o : Blocks) → Grown n o → (k p a q : ℕ) → Live n k q → Shape new m n k p a q → Shape new m o k p a q
@@ -173,7 +170,7 @@ module _ (new : ℕ → ℕ → ℕ) (m : Blocks) (k p a : ℕ) where
     marks = f.marks;
     spent = omega (arith, f.spent, filled_free n u b words fresh lv g, cond-true (changes new m (suc k) p a) (suc (sum_to 16 (λ j. needed new m k (child m p j) (a * 16 + j)))) 0 (sym f.marks));
     shape = (
-      (λ e. absurd (true_false (f.marks ∙ e))),
+      (λ e. absurd (true≢false (f.marks ∙ e))),
       (λ _. (b, refl, omega (arith, g.was, gr.held b))),
       λ j l. subst (Shape new m u k (child m p j) (a * 16 + j)) (sym (g.filled j l)) (shape_grown new m n u (grown_filled n u k b words fresh g) k (child m p j) (a * 16 + j) (words j) (lv j l) (f.shape j l)),
     );

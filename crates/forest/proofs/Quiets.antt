@@ -32,7 +32,7 @@ range (d ∷ ds) a ok =
     let w = within (length ds) a d ok.0 in
     (omega (arith, r.0, w.0), omega (arith, r.1, w.1))
 
-any_none : (n : ℕ) (f : ℕ → Bool) → ((j : ℕ) → j < n → f j ≡ false) → any_to n f ≡ false
+pub any_none : (n : ℕ) (f : ℕ → Bool) → ((j : ℕ) → j < n → f j ≡ false) → any_to n f ≡ false
 any_none zero f h = refl
 any_none (suc n) f h = ap (λ t. t || f n) (any_none n f (λ j l. h j (omega arith))) ∙ h n (omega arith)
 

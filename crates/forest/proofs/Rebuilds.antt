@@ -1,5 +1,5 @@
 -- A tree is built anew, child by child.
-use Rattle.std.proofs.Common.{◌≡◌, ℕ, zero, suc, ◌+◌, ◌-◌, ◌*◌, ◌<◌, ◌≤◌, Bool, true, false, cond, ◌||◌, eqb, ◌≢◌, List, [], ◌∷◌, length, get_or, set, replicate, sym, refl, ap, ◌∙◌, subst, arith, below_more, eq-eqb, ne_eqb}
+use Rattle.std.proofs.Common.{◌≡◌, ℕ, zero, suc, ◌+◌, ◌-◌, ◌*◌, ◌<◌, ◌≤◌, Bool, true, false, cond, ◌||◌, eqb, ◌≢◌, List, [], ◌∷◌, length, get_or, set, replicate, sym, refl, ap, ◌∙◌, subst, arith, below_more, eq-eqb, ne_eqb, true≢false}
 use Rattle.std.proofs.Math.Decide.{ℕ_discrete, dec_lt}
 use Rattle.std.proofs.lemmas.List.{get_or-set_same, get_or-set_other}
 use Rattle.std.proofs.lemmas.Bool.{cond-true, cond-false}
@@ -51,9 +51,6 @@ points_child deep m label outside w t k a (suc b) i q = subst (λ (l : Label). P
 pub child_grown : (m n : Blocks) → Grown m n → (k p i : ℕ) → Live m (suc k) p → child n p i ≡ child m p i
 child_grown m n f k zero i v = refl
 child_grown m n f k (suc b) i v = f.same b i (v b refl).0
-
-pub true_false : true ≡ false → ⊥
-true_false e = let z : ◌≡◌ {A = ℕ} 1 0 = ap (λ t. cond t 1 0) e in omega arith
 
 module _ (new : ℕ → ℕ → ℕ) (m : Blocks) (k p a : ℕ) where
   pub part_none : (words : ℕ → ℕ) (fresh : ℕ → Bool) → Part new m m k p a words fresh false 0
@@ -201,7 +198,7 @@ module _ (new : ℕ → ℕ → ℕ) (m n : Blocks) (k p a : ℕ) (words : ℕ �
 
     pub done_filled : Done new m o (suc k) p a (suc b) true
     done_filled = record {
-      same = λ e. absurd (true_false e);
+      same = λ e. absurd (true≢false e);
       grown = grown_then f.grown filled_grown;
       live = filled_live;
       reads = reads_more o (suc b) g.filled (λ d l ds le ok. look_grown n o filled_grown ds k (words d) le (f.live d l) ∙ f.reads d l ds le ok);
@@ -235,7 +232,7 @@ part_next new m n u o p a words other fresh marks changed i q t h v f d ew eq ef
     d₂ (λ z. ((neither changed t z).0, et ∙ (neither changed t z).1))
   where
     neither : (x y : Bool) → (x || y) ≡ false → (x ≡ false) × (y ≡ false)
-    neither true y z = absurd (true_false z)
+    neither true y z = absurd (true≢false z)
     neither false y z = (refl, z)
 
 module _ (new : ℕ → ℕ → ℕ) (m n : Blocks) (o p a : ℕ) (words : ℕ → ℕ) (fresh : ℕ → Bool) (changed : Bool) (i : ℕ) (h : o ≢ 0) (v : Live m o p) (f : Part new m n (o - 1) p a words fresh changed i) (e : i ≡ 16) where
@@ -273,7 +270,7 @@ module _ (new : ℕ → ℕ → ℕ) (m n : Blocks) (k p a : ℕ) (words : ℕ �
         let e = d.balance deep t a y.0 outside (recount _ _ (λ c. omega (arith, marks_end 16 le c)) y.1) (λ j l r.
         elim (dec_lt j i) [
           | yes h ↦ points_stay b.0 y.0 (node t k (a * 16 + j)) (words j) (λ o g. y.2 o (live_out n k (words j) (f.live j h) o g)) (b.2 j h)
-          | no h ↦ absurd (true_false (sym r ∙ rest j (omega arith)))
+          | no h ↦ absurd (true≢false (sym r ∙ rest j (omega arith)))
         ]) in
         (y.0, e, λ c h. y.2 c (omega (arith, f.grown.held c)) ∙ b.3 c h);
   }

@@ -1,5 +1,5 @@
 -- What holds of the history of every run.
-use Rattle.std.proofs.Common.{◌≡◌, ℕ, suc, ◌<◌, ◌≤◌, Bool, true, false, cond, not, ◌&&◌, ◌||◌, T, eqb, ltb, leb, List, [], ◌∷◌, ◌++◌, map, length, sym, refl, ap, ◌∙◌, subst, ⊎_elim, arith, eqb→eq, leb→le, ltb-false}
+use Rattle.std.proofs.Common.{◌≡◌, ℕ, suc, ◌<◌, ◌≤◌, Bool, true, false, cond, not, ◌&&◌, ◌||◌, T, eqb, ltb, leb, List, [], ◌∷◌, ◌++◌, map, length, sym, refl, ap, ◌∙◌, subst, ⊎_elim, arith, eqb→eq, leb→le, ltb-false, true≢false}
 use Rattle.std.proofs.Math.Option.{Option, none, some}
 use Rattle.std.proofs.lemmas.Bool.Decides.{eqb_tells}
 use Rattle.std.specs.List.{AllByRecursion, filter, flat_map, list_any}
@@ -140,7 +140,7 @@ start_sound n i w t h g e =
       wide = a.1;
       tall = b.1;
       sized = λ t. (a.0, b.0);
-      fits = ⊎_elim (λ a. absurd (let z : ◌≡◌ {A = Bool} true false = sym a.0 ∙ e in subst T z tt)) (λ a. let b = a.1 in omega arith) (eqb_tells (left_of n h) 0);
+      fits = ⊎_elim (λ a. absurd (true≢false (sym a.0 ∙ e))) (λ a. let b = a.1 in omega arith) (eqb_tells (left_of n h) 0);
     }
 
 -- AN EDIT
