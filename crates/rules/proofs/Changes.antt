@@ -4,8 +4,8 @@ use Rattle.std.proofs.Math.Path.{fun_ext}
 use Rattle.std.proofs.lemmas.Bool.{ne_eqb}
 use Rattle.std.proofs.lemmas.Bool.Decides.{eqb_tells, leb_tells}
 use Rattle.std.proofs.Math.Dec.{eqb_refl, not_T}
-use Rattle.std.specs.List.{flat_map, list_any}
-use Rattle.rules.specs.Lists.{below, row_of}
+use Rattle.std.specs.List.{flat_map, list_any, range_with_len}
+use Rattle.rules.specs.Lists.{below}
 use Rattle.rules.specs.Cells.{dot_word, dot_column, dot_row, dot_index, strip_word, strip_at, record_word, depth, cells_on}
 use Rattle.rules.specs.Lines.{on_sheet}
 use Rattle.rules.specs.Sheets.{Sheet, Edit, stroke, fill, frisket, layer, draw, word_of, tree_of}
@@ -61,12 +61,12 @@ module _ (w h : ℕ) (s t : Sheet) (o : OffSheet w h s) (p : OffSheet w h t) (i 
       ap strip_word
       (fun_ext (λ b. o.frisket (32 * (i % 8) + b) (i / 8) (n b) ∙ sym (p.frisket (32 * (i % 8) + b) (i / 8) (n b))))
 
-  strips : T (list_any (eqb i) (flat_map (λ y. row_of (8 * y) ((w + 31) / 32)) (below h))) ⊎ (strip_word (strip_at s.protected i) ≡ strip_word (strip_at t.protected i))
+  strips : T (list_any (eqb i) (flat_map (λ y. range_with_len (8 * y) ((w + 31) / 32)) (below h))) ⊎ (strip_word (strip_at s.protected i) ≡ strip_word (strip_at t.protected i))
   strips =
       ⊎_elim
       (λ a. ⊎_elim
       (λ b. let c = a.1 in let d = b.1 in
-      inl (rw list_any-flat_map (in_row (λ y. list_any (eqb i) (row_of (8 * y) ((w + 31) / 32))) 0 h (i / 8) zero-le (rw zero-add a.1)
+      inl (rw list_any-flat_map (in_row (λ y. list_any (eqb i) (range_with_len (8 * y) ((w + 31) / 32))) 0 h (i / 8) zero-le (rw zero-add a.1)
       (in_row (eqb i) (8 * (i / 8)) ((w + 31) / 32) i (omega arith) (omega arith) (eqb_refl i)))))
       (λ b. inr (off_strip (λ x. not_T (on_sheet w h (32 * (i % 8) + x, i / 8)) (λ u. let l = ltb→lt (32 * (i % 8) + x) w (and_left (ltb (32 * (i % 8) + x) w) (ltb (i / 8) h) u) in let c = b.1 in omega arith))))
       (leb_tells (suc (i % 8)) ((w + 31) / 32)))

@@ -4,11 +4,12 @@ use Rattle.std.proofs.Math.Path.{fun_ext}
 use Rattle.std.proofs.lemmas.Bool.Decides.{eqb_tells}
 use Rattle.std.proofs.Math.Dec.{eqb_refl}
 use Rattle.std.proofs.Math.ListN.{length-map}
-use Rattle.std.specs.List.{filter, flat_map, list_any}
+use Rattle.std.specs.List.{filter, flat_map, list_any, range_with_len}
 use Rattle.std.proofs.Math.Facts.{yes_and}
 use Rattle.std.proofs.lemmas.List.Folds.{list_any-append}
 use Rattle.std.proofs.lemmas.List.Sums.{length-filter, count_by-le-length}
-use Rattle.rules.specs.Lists.{row_of, below}
+use Rattle.std.proofs.lemmas.List.FromFn.{length-range_with_len}
+use Rattle.rules.specs.Lists.{below}
 use Rattle.rules.specs.Lines.{Point}
 use Rattle.rules.specs.Reach.{listed, points_on}
 use Rattle.rules.proofs.Tests.{and_left, and_right, or_left, or_right, or_either}
@@ -25,12 +26,12 @@ module _ {A : Type 0} where
 same_point : (p : Point) (x y : ℕ) → T (eqb p.0 x && eqb p.1 y) → p ≡ (x, y)
 same_point p x y t i = (eqb→eq p.0 x (and_left (eqb p.0 x) (eqb p.1 y) t) i, eqb→eq p.1 y (and_right (eqb p.0 x) (eqb p.1 y) t) i)
 
-pub in_row : (f : ℕ → Bool) (a n x : ℕ) → a ≤ x → x < a + n → T (f x) → T (list_any f (row_of a n))
+pub in_row : (f : ℕ → Bool) (a n x : ℕ) → a ≤ x → x < a + n → T (f x) → T (list_any f (range_with_len a n))
 in_row f a zero x p q t = absurd (let h : x < a = rw add-zero at q in omega arith)
 in_row f a (suc n) x p q t =
     ⊎_elim
-    (λ e. or_left (f a) (list_any f (row_of (suc a) n)) (rw e.1 t))
-    (λ e. or_right (f a) (list_any f (row_of (suc a) n)) (in_row f (suc a) n x (let ne = e.1 in omega arith) (omega arith) t))
+    (λ e. or_left (f a) (list_any f (range_with_len (a + 1) n)) (rw e.1 t))
+    (λ e. or_right (f a) (list_any f (range_with_len (a + 1) n)) (in_row f (a + 1) n x (let ne = e.1 in omega arith) (omega arith) t))
     (eqb_tells a x)
 
 -- every point of the sheet is among its points
@@ -45,10 +46,6 @@ on_points w h x y p q =
     (in_row (λ a. eqb a x && eqb y y) 0 w x (omega arith) (omega arith) (yes_and (eqb x x) (eqb y y) (eqb_refl x) (eqb_refl y))))
 
 -- how many they are
-pub length_row : (a n : ℕ) → length (row_of a n) ≡ n
-length_row a zero = refl
-length_row a (suc n) = ap suc (length_row (suc a) n)
-
 pub length-flat_map_same : {A B : Type 0} (f : A → List B) (n : ℕ) → ((a : A) → length (f a) ≡ n) → (xs : List A) → length (flat_map f xs) ≡ length xs * n
 length-flat_map_same f n e [] = sym (zero-mul n)
 length-flat_map_same f n e (x ∷ xs) =
@@ -56,8 +53,8 @@ length-flat_map_same f n e (x ∷ xs) =
 
 pub length_points : (w h : ℕ) → length (points_on w h) ≡ w * h
 length_points w h =
-    length-flat_map_same (λ y. map (λ x. (x, y)) (below w)) w (λ y. length-map (below w) (λ x. (x, y)) ∙ length_row 0 w) (below h)
-    ∙ ap (λ n. n * w) (length_row 0 h) ∙ mul_comm h w
+    length-flat_map_same (λ y. map (λ x. (x, y)) (below w)) w (λ y. length-map (below w) (λ x. (x, y)) ∙ length-range_with_len 0 w) (below h)
+    ∙ ap (λ n. n * w) (length-range_with_len 0 h) ∙ mul_comm h w
 
 -- a point that is on a list
 module _ (f : Point → Bool) where
@@ -140,13 +137,13 @@ of_some f x (y ∷ xs) same tells t u =
     (or_either (same x y) (list_any (same x) xs) t)
 
 -- what is in a row of numbers
-pub in_bounds : (i a n : ℕ) → T (list_any (eqb i) (row_of a n)) → (a ≤ i) × (i < a + n)
+pub in_bounds : (i a n : ℕ) → T (list_any (eqb i) (range_with_len a n)) → (a ≤ i) × (i < a + n)
 in_bounds i a zero t = absurd t
 in_bounds i a (suc n) t =
     ⊎_elim
     (λ u. let e = eqb→eq i a u in omega arith)
-    (λ u. let r = in_bounds i (suc a) n u in let p = r.0 in let q = r.1 in omega arith)
-    (or_either (eqb i a) (list_any (eqb i) (row_of (suc a) n)) t)
+    (λ u. let r = in_bounds i (a + 1) n u in let p = r.0 in let q = r.1 in omega arith)
+    (or_either (eqb i a) (list_any (eqb i) (range_with_len (a + 1) n)) t)
 
 pub some_in_row : (f : ℕ → Bool) (n : ℕ) → T (list_any f (below n)) → (x : ℕ) × (x < n) × T (f x)
 some_in_row f n t = let r = some_of f (below n) eqb eqb_refl t in (r.0, (let b = in_bounds r.0 0 n r.1 in let c = b.1 in omega arith), r.2)

@@ -1,19 +1,20 @@
 -- Indices of dots and strips, and the columns and rows that they stand for.
-use Rattle.std.proofs.Common.{◌≡◌, ℕ, zero, suc, ◌+◌, ◌*◌, ◌/◌, ◌%◌, ◌^◌, ◌<◌, ◌≤◌, map, sym, refl, ap, ◌∙◌, subst, ap₂, add-zero, mod-lt, mod-eq_of_lt, mul_assoc, mul_comm, div-lt_iff_lt-mul, add_comm, mul-le-mul_left, one-mul, pow-suc, mul-zero, div-add-mod', mul-suc, mul-add, div-one, arith}
+use Rattle.std.proofs.Common.{◌≡◌, ℕ, zero, suc, ◌+◌, ◌*◌, ◌/◌, ◌%◌, ◌^◌, ◌<◌, ◌≤◌, map, sym, refl, ap, ◌∙◌, subst, ap₂, add-zero, add-one, mod-lt, mod-eq_of_lt, mul_assoc, mul_comm, div-lt_iff_lt-mul, add_comm, mul-le-mul_left, one-mul, pow-suc, mul-zero, div-add-mod', mul-suc, mul-add, div-one, arith}
 use Rattle.std.proofs.Math.Nat.{div-div-eq-div-mul, div-eq_of_lt, mul-add-div, mul-add-mod_self_left, pow-zero, pow-succ'}
-use Rattle.rules.specs.Lists.{total, row_of}
+use Rattle.std.specs.List.{range_with_len}
+use Rattle.rules.specs.Lists.{total}
 use Rattle.rules.specs.Cells.{dot_index, dot_column, dot_row, digit, strip_index}
 use Rattle.rules.specs.CellLaws.{DotsPlaced, StripsPlaced}
 
 -- the number with n digits f 0, f 1, .. in base b, the lowest first
 abbrev spelt_from : ℕ → ℕ → ℕ → (ℕ → ℕ) → ℕ
-spelt_from b a n f = total (map (λ k. b ^ k * f k) (row_of a n))
+spelt_from b a n f = total (map (λ k. b ^ k * f k) (range_with_len a n))
 
-spelt_later : (b a n : ℕ) (f : ℕ → ℕ) → spelt_from b (suc a) n f ≡ b * spelt_from b a n (λ k. f (suc k))
+spelt_later : (b a n : ℕ) (f : ℕ → ℕ) → spelt_from b (a + 1) n f ≡ b * spelt_from b a n (λ k. f (suc k))
 spelt_later b a zero f = sym (mul-zero b)
 spelt_later b a (suc n) f =
-    ap₂ ◌+◌ (ap (λ (p : ℕ). p * f (suc a)) (pow-succ' b a) ∙ mul_assoc b (b ^ a) (f (suc a))) (spelt_later b (suc a) n f)
-    ∙ sym (mul-add b (b ^ a * f (suc a)) (spelt_from b (suc a) n (λ k. f (suc k))))
+    ap₂ ◌+◌ (ap (λ (c : ℕ). b ^ c * f c) (add-one a) ∙ ap (λ (p : ℕ). p * f (suc a)) (pow-succ' b a) ∙ mul_assoc b (b ^ a) (f (suc a))) (spelt_later b (a + 1) n f)
+    ∙ sym (mul-add b (b ^ a * f (suc a)) (spelt_from b (a + 1) n (λ k. f (suc k))))
 
 abbrev spelt : ℕ → ℕ → (ℕ → ℕ) → ℕ
 spelt b n f = spelt_from b 0 n f

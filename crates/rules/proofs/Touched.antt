@@ -4,9 +4,9 @@ use Rattle.std.proofs.Math.Nat.{one-le-pow}
 use Rattle.std.proofs.lemmas.Bool.{cases_eq}
 use Rattle.std.proofs.lemmas.Bool.Decides.{nat_tests}
 use Rattle.std.proofs.Math.Dec.{eqb_refl}
-use Rattle.std.specs.List.{flat_map, list_any}
+use Rattle.std.specs.List.{flat_map, list_any, range_with_len}
 use Rattle.std.proofs.Math.Facts.{yes_and}
-use Rattle.rules.specs.Lists.{row_of, below}
+use Rattle.rules.specs.Lists.{below}
 use Rattle.rules.specs.Cells.{depth, cells_on, dot_index}
 use Rattle.rules.specs.Sheets.{Sheet, Edit, stroke, fill, frisket, layer, draw, tree_of, changed, word_of}
 use Rattle.rules.specs.Stretches.{Stretch, same_stretch, Proper, stretch_at, stretches_of, touches}
@@ -38,27 +38,27 @@ pub record Holds (t i a n : ℕ) (q : Stretch) : Type 0 where
   pub low : a ≤ q.order
   pub high : q.order < a + n
 
-pub from_orders : (tree i a n : ℕ) (q : Stretch) → In same_stretch q (map (stretch_at tree i) (row_of a n)) → Holds tree i a n q
+pub from_orders : (tree i a n : ℕ) (q : Stretch) → In same_stretch q (map (stretch_at tree i) (range_with_len a n)) → Holds tree i a n q
 from_orders tree i a zero q t = absurd t
 from_orders tree i a (suc n) q t =
     ⊎_elim
     (λ u. let e = stretch_tells q (stretch_at tree i a) u in
     let o : q.order ≡ a = ap (λ (r : Stretch). r.order) e in
     record { tree = ap (λ (r : Stretch). r.tree) e; quotient = ap (λ (r : Stretch). r.quotient) e ∙ ap (λ k. i / 16 ^ k) (sym o); low = omega arith; high = omega arith })
-    (λ u. let r = from_orders tree i (suc a) n q u in
+    (λ u. let r = from_orders tree i (a + 1) n q u in
     record { tree = r.tree; quotient = r.quotient; low = omega (arith, r.low); high = omega (arith, r.high) })
-    (or_either (same_stretch q (stretch_at tree i a)) (list_any (same_stretch q) (map (stretch_at tree i) (row_of (suc a) n))) t)
+    (or_either (same_stretch q (stretch_at tree i a)) (list_any (same_stretch q) (map (stretch_at tree i) (range_with_len (a + 1) n))) t)
 
-pub to_orders : (tree i a n : ℕ) (q : Stretch) → Holds tree i a n q → In same_stretch q (map (stretch_at tree i) (row_of a n))
+pub to_orders : (tree i a n : ℕ) (q : Stretch) → Holds tree i a n q → In same_stretch q (map (stretch_at tree i) (range_with_len a n))
 to_orders tree i a zero q k = absurd (omega (arith, k.low, k.high))
 to_orders tree i a (suc n) q k =
     ⊎_elim
-    (λ g. or_left (same_stretch q (stretch_at tree i a)) (list_any (same_stretch q) (map (stretch_at tree i) (row_of (suc a) n)))
+    (λ g. or_left (same_stretch q (stretch_at tree i a)) (list_any (same_stretch q) (map (stretch_at tree i) (range_with_len (a + 1) n)))
     (yes_and (eqb q.tree tree && eqb q.order a) (eqb q.quotient (i / 16 ^ a))
     (yes_and (eqb q.tree tree) (eqb q.order a) (eq→eqb k.tree) (eq→eqb g))
     (eq→eqb (k.quotient ∙ ap (λ (j : ℕ). i / 16 ^ j) g))))
-    (λ g. or_right (same_stretch q (stretch_at tree i a)) (list_any (same_stretch q) (map (stretch_at tree i) (row_of (suc a) n)))
-    (to_orders tree i (suc a) n q (record { tree = k.tree; quotient = k.quotient; low = omega (arith, k.low); high = omega (arith, k.high) })))
+    (λ g. or_right (same_stretch q (stretch_at tree i a)) (list_any (same_stretch q) (map (stretch_at tree i) (range_with_len (a + 1) n)))
+    (to_orders tree i (a + 1) n q (record { tree = k.tree; quotient = k.quotient; low = omega (arith, k.low); high = omega (arith, k.high) })))
     (cases_eq q.order a)
 
 -- the cells on a sheet are cells of their tree
@@ -71,9 +71,9 @@ cells_below w h tree i a b l t = go (ltb tree 8) (eqb tree 8) refl refl
         let q = some_in_row (λ x. eqb i (dot_index x r.0)) w (subst T (list_any-map (eqb i) (λ x. dot_index x r.0) (below w)) r.2) in
         subst (λ (k : ℕ). k < 65536) (sym (eqb→eq i (dot_index q.0 r.0) q.2)) (dots_placed.within q.0 r.0)
 
-    strips : T (list_any (eqb i) (flat_map (λ y. row_of (8 * y) ((w + 31) / 32)) (below h))) → i < 4096
+    strips : T (list_any (eqb i) (flat_map (λ y. range_with_len (8 * y) ((w + 31) / 32)) (below h))) → i < 4096
     strips u =
-        let r = some_in_row (λ y. list_any (eqb i) (row_of (8 * y) ((w + 31) / 32))) h (rw list_any-flat_map at u) in
+        let r = some_in_row (λ y. list_any (eqb i) (range_with_len (8 * y) ((w + 31) / 32))) h (rw list_any-flat_map at u) in
         let q = in_bounds i (8 * r.0) ((w + 31) / 32) r.2 in
         let c = r.1 in let d = q.1 in let k : (w + 31) / 32 ≤ 8 = omega arith in omega arith
 

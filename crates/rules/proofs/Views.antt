@@ -2,6 +2,7 @@
 use Rattle.std.proofs.Common.{◌≡◌, ℕ, ◌+◌, ◌*◌, ◌/◌, ◌%◌, ◌<◌, ◌≤◌, Bool, true, false, cond, ltb, List, [], ◌∷◌, ◌++◌, map, get_or, refl, ap, ◌∙◌, mul_comm, arith, ltb-false, ltb-true}
 use Rattle.std.specs.List.{AllByRecursion, flat_map}
 use Rattle.std.proofs.Math.ListN.{length-map}
+use Rattle.std.proofs.lemmas.List.FromFn.{length-range_with_len}
 use Rattle.rules.specs.Lists.{below}
 use Rattle.rules.specs.Dots.{Dot, Sound}
 use Rattle.rules.specs.Pictures.{flat_dot}
@@ -10,12 +11,12 @@ use Rattle.rules.specs.ViewLaws.{spelt, DecimalsSpell, RowLengths, RowsBytes, Ma
 use Rattle.rules.proofs.Bits.{binary_below, binary_back}
 use Rattle.rules.proofs.Inks.{paper_byte}
 use Rattle.rules.proofs.Draws.{flat_sound}
-use Rattle.rules.proofs.Members.{length_row, length-flat_map_same}
+use Rattle.rules.proofs.Members.{length-flat_map_same}
 
 pub row_lengths : RowLengths
 row_lengths = record {
-  colours = λ w s y. length-flat_map_same (λ x. paper_bytes (flat_dot s x y)) 3 (λ x. refl) (below w) ∙ ap (λ n. n * 3) (length_row 0 w) ∙ mul_comm w 3;
-  masks = λ w s y. length-map (below ((w + 7) / 8)) (mask_byte s y) ∙ length_row 0 ((w + 7) / 8);
+  colours = λ w s y. length-flat_map_same (λ x. paper_bytes (flat_dot s x y)) 3 (λ x. refl) (below w) ∙ ap (λ n. n * 3) (length-range_with_len 0 w) ∙ mul_comm w 3;
+  masks = λ w s y. length-map (below ((w + 7) / 8)) (mask_byte s y) ∙ length-range_with_len 0 ((w + 7) / 8);
 }
 
 -- what holds of each byte of each dot holds of the row

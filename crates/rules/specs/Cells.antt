@@ -7,9 +7,9 @@
 --   depth    of a tree: its indices have that many digits in base 16
 use Rattle.std.specs.Prelude.{ℕ, ◌+◌, ◌-◌, ◌*◌, ◌/◌, ◌%◌, ◌^◌, Bool, cond, List, map, ◌==◌, nat_lt}
 use Rattle.std.proofs.Math.Option.{Option, none, some}
-use Rattle.std.specs.List.{flat_map}
+use Rattle.std.specs.List.{flat_map, range_with_len}
 use Rattle.rules.specs.Dots.{Dot}
-use Rattle.rules.specs.Lists.{below, row_of, total, binary, binary_digit}
+use Rattle.rules.specs.Lists.{below, total, binary, binary_digit}
 
 -- a dot as a word: red highest, alpha lowest
 abbrev pub dot_word : Dot → ℕ
@@ -72,4 +72,4 @@ depth tree = cond (nat_lt tree 8) 4 (cond (tree == strips) 3 (cond (tree == reco
 abbrev pub cells_on : ℕ → ℕ → ℕ → List ℕ
 cells_on w h tree =
     cond (nat_lt tree 8) (flat_map (λ y. map (λ x. dot_index x y) (below w)) (below h))
-    (cond (tree == strips) (flat_map (λ y. row_of (8 * y) ((w + 31) / 32)) (below h)) (below 8))
+    (cond (tree == strips) (flat_map (λ y. range_with_len (8 * y) ((w + 31) / 32)) (below h)) (below 8))

@@ -1,19 +1,14 @@
 -- Words on lists, numbers and tests that the other definitions use.
 --
---   row_of a n   the numbers a, a + 1, .., n of them
 --   below n      the numbers 0 to n - 1
 --   apart a b    the distance between two numbers
 --   distinct     a list without its repetitions
 --   Once         nothing stands on a list twice
 use Rattle.std.specs.Prelude.{ℕ, zero, suc, ◌+◌, ◌-◌, ◌*◌, ◌/◌, ◌%◌, ◌^◌, Bool, true, false, cond, T, List, [], ◌∷◌, ◌==◌}
-use Rattle.std.specs.List.{list_any}
-
-abbrev pub row_of : ℕ → ℕ → List ℕ
-row_of a zero = []
-row_of a (suc n) = a ∷ row_of (suc a) n
+use Rattle.std.specs.List.{list_any, range_with_len}
 
 abbrev pub below : ℕ → List ℕ
-below n = row_of 0 n
+below n = range_with_len 0 n
 
 abbrev pub apart : ℕ → ℕ → ℕ
 apart a b = (a - b) + (b - a)

@@ -5,8 +5,8 @@
 --   touched   the stretches that hold a changed cell
 --   need      the blocks that an edit takes: one for the snapshot, and one for each stretch that it touches
 use Rattle.std.specs.Prelude.{ℕ, ◌+◌, ◌-◌, ◌/◌, ◌^◌, ◌<◌, ◌≤◌, Bool, ◌&&◌, List, map, length, ◌==◌}
-use Rattle.std.specs.List.{flat_map, list_any}
-use Rattle.rules.specs.Lists.{distinct, row_of}
+use Rattle.std.specs.List.{flat_map, list_any, range_with_len}
+use Rattle.rules.specs.Lists.{distinct}
 use Rattle.rules.specs.Cells.{depth}
 use Rattle.rules.specs.Sheets.{Sheet, Edit, tree_of, changed}
 
@@ -30,7 +30,7 @@ stretch_at tree i order = record { tree = tree; order = order; quotient = i / 16
 
 -- the stretches that hold a cell, one of each order
 abbrev pub stretches_of : ℕ → ℕ → List Stretch
-stretches_of tree i = map (stretch_at tree i) (row_of 1 (depth tree))
+stretches_of tree i = map (stretch_at tree i) (range_with_len 1 (depth tree))
 
 abbrev pub touched : ℕ → ℕ → Edit → Sheet → List Stretch
 touched w h e s = distinct same_stretch (flat_map (stretches_of (tree_of e)) (changed w h e s))
