@@ -44,14 +44,15 @@ impl Order {
     // The numbers.
     pub(crate) fn numbers(&self) -> &[u8]
         ensures value { result.now ≡ self.now.made }
-        ensures fits { length result.now ≤ 64 }
+        ensures few { length result.now ≤ 64 }
     {
         &self.places[..self.count]
     }
 
     // Adds a number that comes last, where there is room for one more.
     pub(crate) fn push(&mut self, number: u8)
-        ensures { length self.old.made < 64 → self.new.made ≡ self.old.made ++ (number ∷ []) }
+        ensures made { length self.old.made < 64 → self.new.made ≡ self.old.made ++ (number ∷ []) }
+        ensures few { length self.new.made ≤ 64 }
     {
         if self.count < self.places.len() {
             self.places[self.count] = number;
@@ -61,7 +62,8 @@ impl Order {
 
     // Strikes a number.
     pub(crate) fn strike(&mut self, number: u8)
-        ensures { self.new.made ≡ filter (but number) self.old.made }
+        ensures made { self.new.made ≡ filter (but number) self.old.made }
+        ensures few { length self.new.made ≤ 64 }
     {
         let mut kept = Order::new();
         for other in self.numbers() {

@@ -1,5 +1,5 @@
 // The table, and what is done with it.
-ghost use Rattle.std.specs.Prelude.{◌≡◌, ℕ, ◌<◌, [], ◌∷◌, ◌++◌, map, length, slice_set, option_map, filter};
+ghost use Rattle.std.specs.Prelude.{◌≡◌, ℕ, ◌<◌, ◌≤◌, [], ◌∷◌, ◌++◌, map, length, slice_set, option_map, filter};
 ghost use Rattle.table.specs.Tables.{at, but, last_under, moved_up, parent_at};
 
 use crate::orders::Order;
@@ -11,6 +11,7 @@ pub struct Table {
     snapshots: [Option<Snapshot>; 64],
     order: Order,
     ghost full: { length snapshots ≡ 64 },
+    ghost few: { length order.made ≤ 64 },
 }
 
 impl Table {

@@ -6,3 +6,6 @@ use Rattle.table.proofs.orders.Order.strike.Goals as goal
 
 pub loop-other-preserved : goal.loop-other-preserved
 loop-other-preserved c = grind (arith, common_steps, filter_more, length-filter_le, append-nil)
+
+pub returns-clause-few : goal.returns-clause-few
+returns-clause-few c = grind (arith, common_steps, length-filter_le)
