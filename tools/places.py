@@ -26,7 +26,7 @@ POINTS = [
     ("4 equality, conversion and printing by hand", [
         r"as u8 == |\.number\(\) == ",
         r"\bfn (text|channels|numbered|word_of|pack|unpack|is_like|number|sentence|stands_under|told|done)\b",
-        r"\bimpl .*(fmt::Display|From<.*>|PartialEq|Ord|Clone) for ",
+        r"\bimpl .*\b(PartialEq|Eq|PartialOrd|Ord|Clone|Copy|Debug) for ",
         r"16777216|65536",
     ]),
     ("6 arrays with a length, or beside one another; indices for references", [
