@@ -59,7 +59,7 @@ impl Slab<'_> {
     {
         let k = b as usize;
         if k < self.view().size() {
-            self.words[16 * k..16 * k + 16].copy_from_slice(&[0; 16]);
+            self.words[16 * k..16 * k + 16].fill(0);
             self.cells[k] = 1;
         }
     }

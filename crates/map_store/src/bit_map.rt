@@ -7,6 +7,7 @@ ghost use Rattle.marks.specs.Map.{mark};
 #[derive(Drop)]
 pub(crate) struct BitMap {
     pub(crate) words: [u32; 512],
+    // there are as many words as that, of 32 bits each
     ghost long: { length words ≡ 512 },
     ghost wide: { (k : ℕ) → slice_index words k < 2 ^ 32 },
 }
@@ -32,7 +33,7 @@ impl BitMap {
         }
     }
 
-    // The first word that has a 0, from the given word on.
+    // The first word that has a 0, from the given word on. By the words' numbers: an iterator over the words that skips some makes a take slower by half.
     fn first_with_zero(&self, from: usize) -> Option<usize>
         ensures { MatchOption result ((w : ℕ) → from ≤ w → w < 512 → slice_index self.now.words w ≡ 4294967295) (λ w. (w < 512) × (slice_index self.now.words w ≢ 4294967295) × ((v : ℕ) → from ≤ v → v < w → slice_index self.now.words v ≡ 4294967295)) }
     {

@@ -13,5 +13,6 @@ pub struct RingStore {
     ghost full: { length words ≡ 2048 },
     ghost all: { length cells ≡ 128 },
     ghost near: { last < 128 },
+    // as in a slab, which this store lends its arrays to for the length of a call
     ghost fits: { Fits (laid words cells) },
 }
