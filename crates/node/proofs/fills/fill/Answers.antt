@@ -1,5 +1,5 @@
-use Rattle.std.proofs.Common.{refl, arith}
-use Rattle.forest.proofs.Fills.{fill_begin, fill_step, fill_holdable, fill_done}
+use Rattle.std.proofs.Common.{refl}
+use Rattle.forest.proofs.Fills.{fill_begin, fill_step, fill_holdable}
 use Rattle.node.specs.Children.{fresh_at, word_at}
 use Rattle.node.proofs.fills.fill.Goals as goal
 

@@ -1,6 +1,5 @@
-use Rattle.std.proofs.Common.{suc, ◌+◌, ◌-◌, ◌*◌, sym, refl, ap, ◌∙◌, arith, rules}
+use Rattle.std.proofs.Common.{suc, ◌+◌, ◌-◌, ◌*◌, sym, refl, ap, ◌∙◌, arith}
 use Rattle.block.proofs.Sums.{sum_zero}
-use Rattle.forest.specs.Plans.{changes, needed}
 use Rattle.forest.proofs.Quiets.{quiet_changes}
 use Rattle.forest.proofs.Needs.{count_fits, count_reads, count_more, count_told}
 use Rattle.tree.proofs.needs.+count.Goals as goal

@@ -1,4 +1,4 @@
-use Rattle.std.proofs.Common.{◌≡◌, ◌≤◌}
+use Rattle.std.proofs.Common.{◌≡◌}
 use Rattle.forest.specs.Trees.{lookup}
 use Rattle.tree.proofs.trees.Tree.word_at.Given as goal
 
