@@ -7,7 +7,7 @@ use ink::Dot;
 pub type Answer = Result<Reply, Refusal>;
 
 // The answer of a call that was not refused.
-#[derive(Clone, Copy)]
+#[derive(Clone, Copy, PartialEq, Eq, Debug)]
 pub enum Reply {
     // it was done
     Done,
