@@ -4,7 +4,7 @@ ghost use Rattle.table.specs.Tables.{but};
 
 use std::marker::Model;
 
-// Their numbers, the one made first at the front. An `ArrayVec` is not `Copy`, as the table is.
+// Their numbers, the one made first at the front. It is no `ArrayVec`: that is not `Copy`, and the table is.
 #[derive(Clone, Copy)]
 pub(crate) struct Order {
     places: [u8; 64],
