@@ -1,15 +1,11 @@
 -- What the calls and answers of the code say, in the words of histories.
 --
---   maybe       a number or none
---   corners     a rectangle or none
 --   outcome     what a call that returned a result is answered
 --   done_with   what a call that only does something is answered
 --   replied     the answer of a call that was not refused
 --   told        an answer
 --   act         a call
-use Rattle.std.specs.Prelude.{ℕ, Some, None, Ok, Err, Option, Result}
-use Rattle.std.proofs.Math.Option as option
-use Rattle.rules.specs.Lines.{Point}
+use Rattle.std.specs.Prelude.{Ok, Err, Result}
 use Rattle.rules.specs.Sheets as sheets
 use Rattle.history.specs.Calls as history
 use Rattle.ink.specs.Meanings.{dot_of}
@@ -19,14 +15,6 @@ use Rattle.calls.specs.declared.answers.Reply.{Reply}
 use Rattle.calls.specs.declared.answers.Reply.TheVariants.{Done, Size, Number, Maybe, Dot, Truth, Corners}
 use Rattle.calls.specs.declared.asked.Call.{Call}
 use Rattle.calls.specs.declared.asked.Call.TheVariants as call
-
-abbrev pub maybe : Option ℕ → option.Option ℕ
-maybe None = option.none
-maybe (Some n) = option.some n
-
-abbrev pub corners : Option (Point × Point) → option.Option (Point × Point)
-corners None = option.none
-corners (Some b) = option.some b
 
 -- `said` is the answer of a value that was returned
 abbrev pub outcome : {A : Type 0} → (A → history.Answer) → Result A Refusal → history.Answer
@@ -40,10 +28,10 @@ abbrev pub replied : Reply → history.Answer
 replied Done = history.done
 replied (Size s) = history.size s.width s.height
 replied (Number n) = history.number n
-replied (Maybe n) = history.number_or_none (maybe n)
+replied (Maybe n) = history.number_or_none n
 replied (Dot d) = history.dot (dot_of d)
 replied (Truth b) = history.truth b
-replied (Corners b) = history.rectangle (corners b)
+replied (Corners b) = history.rectangle b
 
 abbrev pub told : Result Reply Refusal → history.Answer
 told a = outcome replied a

@@ -1,6 +1,5 @@
 -- What a call that is not refused tells: each of its grounds fails.
-use Rattle.std.proofs.Common.{◌≡◌, ℕ, ◌<◌, Bool, true, false, cond, not, ◌||◌, T, ltb, List, [], ◌∷◌, ◌++◌, refl, subst, arith, ltb-false}
-use Rattle.std.proofs.Math.Option.{none, some}
+use Rattle.std.proofs.Common.{◌≡◌, ℕ, ◌<◌, Bool, true, false, cond, not, ◌||◌, T, ltb, List, [], ◌∷◌, ◌++◌, refl, subst, arith, ltb-false, None, Some}
 use Rattle.rules.specs.Sheets.{Edit, stroke, fill, frisket, layer}
 use Rattle.rules.specs.DrawLaws.{Layered}
 use Rattle.rules.specs.Refusals.{Ground, first}
@@ -12,11 +11,11 @@ abbrev pub Fail : List Ground → Type 0
 Fail [] = Unit {0}
 Fail (g ∷ gs) = (g.0 ≡ false) × Fail gs
 
-pub fail : (gs : List Ground) → first gs ≡ none → Fail gs
+pub fail : (gs : List Ground) → first gs ≡ None → Fail gs
 fail [] e = tt
 fail (g ∷ gs) e = go (fail gs) g.0 e
   where
-    go : (first gs ≡ none → Fail gs) → (b : Bool) → cond b (some g.1) (first gs) ≡ none → (b ≡ false) × Fail gs
+    go : (first gs ≡ None → Fail gs) → (b : Bool) → cond b (Some g.1) (first gs) ≡ None → (b ≡ false) × Fail gs
     go ih true e = cc
     go ih false e = (refl, ih e)
 

@@ -1,6 +1,5 @@
 -- What holds of every list of calls.
-use Rattle.std.proofs.Common.{◌≡◌, ℕ, suc, ◌+◌, Bool, true, false, cond, not, T, eqb, List, [], ◌∷◌, ◌++◌, map, length, sym, refl, ap, ◌∙◌, subst, ⊎_elim, append_assoc, append-nil, add-zero, add-suc, suc-add, zero-add, arith, eqb→eq, length-append, ltb-false}
-use Rattle.std.proofs.Math.Option.{Option, none, some}
+use Rattle.std.proofs.Common.{◌≡◌, ℕ, suc, ◌+◌, Bool, true, false, cond, not, T, eqb, List, [], ◌∷◌, ◌++◌, map, length, sym, refl, ap, ◌∙◌, subst, ⊎_elim, append_assoc, append-nil, add-zero, add-suc, suc-add, zero-add, arith, eqb→eq, length-append, ltb-false, Option, None, Some}
 use Rattle.std.specs.List.{AllByRecursion, filter, flat_map, list_any}
 use Rattle.std.proofs.Math.Dec.{eqb_refl}
 use Rattle.rules.specs.Lists.{Once}
@@ -58,7 +57,7 @@ runs_take_need n cs s e r =
     let head = sound.head (not_false (started h) f.0) in
     let p : run n (cs ++ (edit s e ∷ [])) ≡ edited (length cs) s e h
     = run_push n 0 empty cs (edit s e) ∙ ap (λ k. step n k (edit s e) h) (zero-add (length cs))
-    ∙ ap (λ (o : Option Refusal). elim o [ none ↦ edited (length cs) s e h | some q ↦ h ]) r
+    ∙ ap (λ (o : Option Refusal). elim o [ None ↦ edited (length cs) s e h | Some q ↦ h ]) r
     in
     let t = takes_need h (length cs) s e (all_before n (length cs) h sound) head in
     let q : count (run n (cs ++ (edit s e ∷ []))) ≡ count h + need_of e h = ap count p ∙ t in
@@ -132,7 +131,7 @@ all_made_rest cs s up (p ∷ ps) a = go (all_made_rest cs s up ps a.1) (not (eqb
     moved false = a.0
 
     go : AllMade cs (map (moved_up s up) (filter (λ p. not (eqb p.number s)) ps)) → (c : Bool) → AllMade cs (map (moved_up s up) (cond c (p ∷ filter (λ p. not (eqb p.number s)) ps) (filter (λ p. not (eqb p.number s)) ps)))
-    go ih true = (moved (elim p.parent [ none ↦ false | some q ↦ eqb q s ]), ih)
+    go ih true = (moved (elim p.parent [ None ↦ false | Some q ↦ eqb q s ]), ih)
     go ih false = ih
 
 carried_made : (cs : List Call) (c : Call) (h : History) → AllMade cs h.live → AllMade (cs ++ (c ∷ [])) (carried_out (length cs) c h).live
@@ -163,9 +162,9 @@ carried_made cs (open_view s kind) h a = all_made_more cs (open_view s kind ∷ 
 step_made : (n : ℕ) (cs : List Call) (c : Call) (h : History) → AllMade cs h.live → AllMade (cs ++ (c ∷ [])) (step n (length cs) c h).live
 step_made n cs c h a = go (refusal n c h)
   where
-    go : (o : Option Refusal) → AllMade (cs ++ (c ∷ [])) (elim o as (λ _. History) [ none ↦ carried_out (length cs) c h | some r ↦ h ]).live
-    go none = carried_made cs c h a
-    go (some r) = all_made_more cs (c ∷ []) h.live a
+    go : (o : Option Refusal) → AllMade (cs ++ (c ∷ [])) (elim o as (λ _. History) [ None ↦ carried_out (length cs) c h | Some r ↦ h ]).live
+    go None = carried_made cs c h a
+    go (Some r) = all_made_more cs (c ∷ []) h.live a
 
 from_made : (n : ℕ) (before cs : List Call) (h : History) → AllMade before h.live → AllMade (before ++ cs) (run_from n (length before) h cs).live
 from_made n before [] h a = subst (λ (l : List Call). AllMade l h.live) (sym (append-nil before)) a
@@ -191,4 +190,4 @@ pub answers_by_history : AnswersByHistory
 answers_by_history n before c rest = split n 0 empty before c rest
 
 pub refused_keeps : RefusedKeeps
-refused_keeps n i c h r e = ap (λ (o : Option Refusal). elim o as (λ _. History) [ none ↦ carried_out i c h | some q ↦ h ]) e
+refused_keeps n i c h r e = ap (λ (o : Option Refusal). elim o as (λ _. History) [ None ↦ carried_out i c h | Some q ↦ h ]) e

@@ -1,6 +1,5 @@
 -- What holds of the history of every run.
-use Rattle.std.proofs.Common.{◌≡◌, ℕ, suc, ◌<◌, ◌≤◌, Bool, true, false, cond, not, ◌&&◌, ◌||◌, T, eqb, ltb, leb, List, [], ◌∷◌, ◌++◌, map, length, sym, refl, ap, ◌∙◌, subst, ⊎_elim, arith, eqb→eq, leb→le, ltb-false, true≢false}
-use Rattle.std.proofs.Math.Option.{Option, none, some}
+use Rattle.std.proofs.Common.{◌≡◌, ℕ, suc, ◌<◌, ◌≤◌, Bool, true, false, cond, not, ◌&&◌, ◌||◌, T, eqb, ltb, leb, List, [], ◌∷◌, ◌++◌, map, length, sym, refl, ap, ◌∙◌, subst, ⊎_elim, arith, eqb→eq, leb→le, ltb-false, true≢false, Option, None, Some}
 use Rattle.std.proofs.lemmas.Bool.Decides.{eqb_tells}
 use Rattle.std.specs.List.{AllByRecursion, filter, flat_map, list_any}
 use Rattle.std.proofs.Math.Dec.{eqb_refl, not_T}
@@ -87,9 +86,9 @@ parent_live n i h sound l = go (snapshot h.head h) (found_all (StandsWell h) fir
     go : (p : Snapshot) → StandsWell h p → T (is_live (or_head p.parent h) h)
     go p = at p.parent
       where
-        at : (o : Option ℕ) → elim o as (λ _. Type 0) [ none ↦ (p.number ≡ 0) × (p.line ≡ []) | some q ↦ (p.number ≡ 0 → ⊥) × T (is_live q h) × (last_place (line_of q h) < last_place p.line) ] → T (is_live (or_head o h) h)
-        at none t = l
-        at (some q) t = t.1
+        at : (o : Option ℕ) → elim o as (λ _. Type 0) [ None ↦ (p.number ≡ 0) × (p.line ≡ []) | Some q ↦ (p.number ≡ 0 → ⊥) × T (is_live q h) × (last_place (line_of q h) < last_place p.line) ] → T (is_live (or_head o h) h)
+        at None t = l
+        at (Some q) t = t.1
 
 -- the child made latest is one of the children
 latest_among : (s : ℕ) (p : Snapshot) (ps : List Snapshot) → (latest_from p ps).number ≡ s → Among s (p ∷ ps)
@@ -169,11 +168,11 @@ module _ (n i s : ℕ) (e : Edit) (h : History) (sound : SoundHistory n i h) (be
   stands_still p = go p.parent
     where
       at : History → Option ℕ → Type 0
-      at k o = elim o [ none ↦ (p.number ≡ 0) × (p.line ≡ []) | some q ↦ (p.number ≡ 0 → ⊥) × T (is_live q k) × (last_place (line_of q k) < last_place p.line) ]
+      at k o = elim o [ None ↦ (p.number ≡ 0) × (p.line ≡ []) | Some q ↦ (p.number ≡ 0 → ⊥) × T (is_live q k) × (last_place (line_of q k) < last_place p.line) ]
 
       go : (o : Option ℕ) → at h o → at (edited i s e h) o
-      go none t = t
-      go (some q) t = (t.0, live_still q t.1, subst (λ (es : List Entry). last_place es < last_place p.line) (sym (line_still q t.1)) t.2)
+      go None t = t
+      go (Some q) t = (t.0, live_still q t.1, subst (λ (es : List Entry). last_place es < last_place p.line) (sym (line_still q t.1)) t.2)
 
   new_sound : SoundSnapshot (suc i) (edited i s e h) new
   new_sound =
@@ -306,17 +305,17 @@ module _ (n i s : ℕ) (h : History) (sound : SoundHistory n i h) (begun : T (st
   stands_on p = go p.parent refl
     where
       at : History → ℕ → Option ℕ → List Entry → Type 0
-      at k m o l = elim o [ none ↦ (m ≡ 0) × (l ≡ []) | some q ↦ (m ≡ 0 → ⊥) × T (is_live q k) × (last_place (line_of q k) < last_place l) ]
+      at k m o l = elim o [ None ↦ (m ≡ 0) × (l ≡ []) | Some q ↦ (m ≡ 0 → ⊥) × T (is_live q k) × (last_place (line_of q k) < last_place l) ]
 
       raised : (o : Option ℕ) → at h (snapshot s h).number o (line_of s h) → (p.number ≡ 0 → ⊥) → last_place (line_of s h) < last_place p.line → at after p.number o p.line
-      raised none t z l = absurd (not_zero (sym (found_number first_snapshot s h.live live) ∙ t.0))
-      raised (some q) t z l =
+      raised None t z l = absurd (not_zero (sym (found_number first_snapshot s h.live live) ∙ t.0))
+      raised (Some q) t z l =
           let ne : q ≡ s → ⊥ = λ e. let z = ap (λ m. last_place (line_of m h)) e in let y = t.2 in omega arith in
           (z, rest_live q ne h.live t.1, (let z = ap last_place (lines_stay q ne) in let y = t.2 in omega arith))
 
       go : (o : Option ℕ) → p.parent ≡ o → at h p.number o p.line → StandsWell after (moved_up s up p)
-      go none e t = rw e t
-      go (some q) e t =
+      go None e t = rw e t
+      go (Some q) e t =
           ⊎_elim
           (λ a. rw (e, a.0) (raised up (found_all (StandsWell h) first_snapshot s h.live (all_mono (λ p k. k.stands) h.live sound.snapshots) live) t.0 (let z = ap (λ m. last_place (line_of m h)) a.1 in let y = t.2 in omega arith)))
           (λ a. rw (e, a.0) (t.0, rest_live q a.1 h.live t.1, (let z = ap last_place (lines_stay q a.1) in let y = t.2 in omega arith)))
@@ -371,7 +370,7 @@ module _ (n i s : ℕ) (h : History) (sound : SoundHistory n i h) (begun : T (st
 
 -- EVERY CALL
 
-pub carried_sound : (n i : ℕ) (c : Call) (h : History) → SoundHistory n i h → refusal n c h ≡ none → SoundHistory n (suc i) (carried_out i c h)
+pub carried_sound : (n i : ℕ) (c : Call) (h : History) → SoundHistory n i h → refusal n c h ≡ None → SoundHistory n (suc i) (carried_out i c h)
 carried_sound n i (start w t) h sound r =
     let f = fail (grounds n (start w t) h) r in
     start_sound n i w t h (not_false (good_length w && good_length t) f.1.0) f.1.1.1.0
@@ -404,6 +403,6 @@ carried_sound n i (open_view s kind) h sound r = same_sound n i h sound
 pub step_sound : (n i : ℕ) (c : Call) (h : History) → SoundHistory n i h → SoundHistory n (suc i) (step n i c h)
 step_sound n i c h sound = go (refusal n c h) refl
   where
-    go : (o : Option Refusal) → refusal n c h ≡ o → SoundHistory n (suc i) (elim o [ none ↦ carried_out i c h | some r ↦ h ])
-    go none e = carried_sound n i c h sound e
-    go (some r) e = same_sound n i h sound
+    go : (o : Option Refusal) → refusal n c h ≡ o → SoundHistory n (suc i) (elim o [ None ↦ carried_out i c h | Some r ↦ h ])
+    go None e = carried_sound n i c h sound e
+    go (Some r) e = same_sound n i h sound

@@ -1,6 +1,5 @@
 -- Headers and rows that are not refused fit.
-use Rattle.std.proofs.Common.{suc, not, ◌&&◌, eqb, ltb, leb, [], ◌∷◌, length, ap, ltb-false, leb-false}
-use Rattle.std.proofs.Math.Option.{Option, none, some}
+use Rattle.std.proofs.Common.{suc, not, ◌&&◌, eqb, ltb, leb, [], ◌∷◌, length, ap, ltb-false, leb-false, Option, None, Some}
 use Rattle.rules.specs.Refusals.{Refusal, bad_size, nowhere, short_buffer}
 use Rattle.history.specs.Calls.{of_snapshot}
 use Rattle.history.specs.Views.{View, header_of, next_row, row_grounds}
@@ -14,5 +13,5 @@ views_fit = record {
       let ends = (not (eqb v.width h.width && eqb v.height h.height), bad_size) ∷ (leb v.height v.rows, nowhere) ∷ (ltb room (length (next_row v h)), short_buffer) ∷ [] in
       let f = fail_back (of_snapshot v.number h) ends (fail (row_grounds room v h) e) in
       (ltb-false room (length (next_row v h)) f.1.1.0, leb-false v.height v.rows f.1.0);
-  refused = λ room v h r e. ap (λ (o : Option Refusal). elim o as (λ _. View) [ none ↦ record { number = v.number; width = v.width; height = v.height; kind = v.kind; rows = suc v.rows } | some q ↦ v ]) e;
+  refused = λ room v h r e. ap (λ (o : Option Refusal). elim o as (λ _. View) [ None ↦ record { number = v.number; width = v.width; height = v.height; kind = v.kind; rows = suc v.rows } | Some q ↦ v ]) e;
 }

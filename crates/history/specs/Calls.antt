@@ -4,8 +4,7 @@
 --   grounds   the refusals of a call, in the order in which they are tried
 --   answer    what a call returns: done, what was asked, or the numbers of the first ground that holds
 --   step      the history after a call: unaltered where it is refused
-use Rattle.std.specs.Prelude.{ℕ, Bool, true, false, cond, not, ◌&&◌, ◌||◌, List, [], ◌∷◌, ◌++◌, map, length, ◌==◌, nat_le, nat_lt}
-use Rattle.std.proofs.Math.Option.{Option, none, some}
+use Rattle.std.specs.Prelude.{ℕ, Bool, true, false, cond, not, ◌&&◌, ◌||◌, List, [], ◌∷◌, ◌++◌, map, length, ◌==◌, nat_le, nat_lt, Option, None, Some}
 use Rattle.std.specs.List.{filter, list_any}
 use Rattle.rules.specs.Lists.{none_of}
 use Rattle.rules.specs.Dots.{Dot}
@@ -58,7 +57,7 @@ abbrev pub number_taken : ℕ → History → Bool
 number_taken s h = s == 0 || nat_lt 63 s || is_live s h
 
 abbrev pub has_record : Sheet → ℕ → Bool
-has_record s l = elim (s.opacity l) [ none ↦ false | some o ↦ true ]
+has_record s l = elim (s.opacity l) [ None ↦ false | Some o ↦ true ]
 
 -- whether there is no such layer on a snapshot: it is above 7, or has no record
 abbrev pub layer_missing : ℕ → ℕ → History → Bool
@@ -150,7 +149,7 @@ reply n (open_view s kind) h = view s h.width h.height kind
 
 -- what a call is answered
 abbrev pub answer : ℕ → Call → History → Answer
-answer n c h = elim (refusal n c h) [ none ↦ reply n c h | some r ↦ refused (numbers r) ]
+answer n c h = elim (refusal n c h) [ None ↦ reply n c h | Some r ↦ refused (numbers r) ]
 
 -- the history with another head
 abbrev pub at_head : ℕ → History → History
@@ -158,12 +157,12 @@ at_head s h = record { width = h.width; height = h.height; head = s; live = h.li
 
 -- the head, or the number that is given
 abbrev pub or_head : Option ℕ → History → ℕ
-or_head none h = h.head
-or_head (some s) h = s
+or_head None h = h.head
+or_head (Some s) h = s
 
 -- the snapshot that an edit at a place makes: it stands under the head, and its line is the head's with the edit added
 abbrev pub made : ℕ → ℕ → Edit → History → Snapshot
-made place s e h = record { number = s; parent = some h.head; line = line_of h.head h ++ (record { place = place; edit = e } ∷ []) }
+made place s e h = record { number = s; parent = Some h.head; line = line_of h.head h ++ (record { place = place; edit = e } ∷ []) }
 
 -- the history after an edit: the snapshot made becomes the head
 abbrev pub edited : ℕ → ℕ → Edit → History → History
@@ -204,4 +203,4 @@ carried_out i (open_view s kind) h = h
 
 -- what a call at a place does over n blocks
 abbrev pub step : ℕ → ℕ → Call → History → History
-step n i c h = elim (refusal n c h) [ none ↦ carried_out i c h | some r ↦ h ]
+step n i c h = elim (refusal n c h) [ None ↦ carried_out i c h | Some r ↦ h ]

@@ -8,8 +8,7 @@
 --   place      how many calls came before
 --   head       the snapshot that the next edit works on
 --   child      a snapshot stands under its parent; the child made latest has the last edit with the highest place
-use Rattle.std.specs.Prelude.{ℕ, Bool, false, cond, not, List, [], ◌∷◌, map, ◌==◌, nat_eq, nat_lt}
-use Rattle.std.proofs.Math.Option.{Option, none, some}
+use Rattle.std.specs.Prelude.{ℕ, Bool, false, cond, not, List, [], ◌∷◌, map, ◌==◌, nat_eq, nat_lt, Option, None, Some}
 use Rattle.std.specs.List.{filter, list_any}
 use Rattle.rules.specs.Lists.{none_of}
 use Rattle.rules.specs.Sheets.{Sheet, Edit, drawn}
@@ -44,7 +43,7 @@ is_live s h = list_any (λ p. nat_eq p.number s) h.live
 
 -- snapshot 0, as it is made: a blank sheet
 abbrev pub first_snapshot : Snapshot
-first_snapshot = record { number = 0; parent = none; line = [] }
+first_snapshot = record { number = 0; parent = None; line = [] }
 
 -- the snapshot with a number on a list, or else another
 abbrev pub find : Snapshot → ℕ → List Snapshot → Snapshot
@@ -75,7 +74,7 @@ last_place (e ∷ (f ∷ es)) = last_place (f ∷ es)
 
 -- whether a snapshot stands under the one with a number
 abbrev pub stands_under : ℕ → Snapshot → Bool
-stands_under s p = elim p.parent [ none ↦ false | some q ↦ nat_eq q s ]
+stands_under s p = elim p.parent [ None ↦ false | Some q ↦ nat_eq q s ]
 
 -- of p and some others the one made latest
 abbrev pub latest_from : Snapshot → List Snapshot → Snapshot
@@ -84,8 +83,8 @@ latest_from p (q ∷ qs) = latest_from (cond (nat_lt (last_place p.line) (last_p
 
 -- of some snapshots the number of the one made latest, or none
 abbrev pub latest : List Snapshot → Option ℕ
-latest [] = none
-latest (p ∷ ps) = some (latest_from p ps).number
+latest [] = None
+latest (p ∷ ps) = Some (latest_from p ps).number
 
 -- the snapshots that stand under the head, and the one of them made latest
 abbrev pub children : History → List Snapshot

@@ -1,6 +1,5 @@
 -- What is proved of histories and of runs.
-use Rattle.std.specs.Prelude.{◌≡◌, ℕ, suc, ◌+◌, ◌<◌, ◌≤◌, T, ◌↔◌, List, [], ◌∷◌, ◌++◌, map, length, ◌==◌, ◌≢◌, nat_eq}
-use Rattle.std.proofs.Math.Option.{none, some}
+use Rattle.std.specs.Prelude.{◌≡◌, ℕ, suc, ◌+◌, ◌<◌, ◌≤◌, T, ◌↔◌, List, [], ◌∷◌, ◌++◌, map, length, ◌==◌, ◌≢◌, nat_eq, None, Some}
 use Rattle.std.specs.List.{AllByRecursion, list_any}
 use Rattle.rules.specs.Lists.{Once}
 use Rattle.rules.specs.Sheets.{Edit, blank_sheet}
@@ -52,8 +51,8 @@ MarksLast = (w h : ℕ) (line : List Entry) (q : Stretch) (p : ℕ) → list_any
 -- only snapshot 0 has no parent, and its line is empty; every other stands under a live one that was made before it
 abbrev pub StandsWell : History → Snapshot → Type 0
 StandsWell h p = elim p.parent [
-  | none ↦ (p.number ≡ 0) × (p.line ≡ [])
-  | some q ↦ (p.number ≢ 0) × T (is_live q h) × (last_place (line_of q h) < last_place p.line)
+  | None ↦ (p.number ≡ 0) × (p.line ≡ [])
+  | Some q ↦ (p.number ≢ 0) × T (is_live q h) × (last_place (line_of q h) < last_place p.line)
 ]
 
 -- a live snapshot after i calls
@@ -108,7 +107,7 @@ TakesNeed = (h : History) (i s : ℕ) (e : Edit) → AllByRecursion (λ p. LineB
 
 -- over every run an accepted edit takes exactly its need of the blocks that are left
 abbrev pub RunsTakeNeed : Type 0
-RunsTakeNeed = (n : ℕ) (cs : List Call) (s : ℕ) (e : Edit) → refusal n (edit s e) (run n cs) ≡ none
+RunsTakeNeed = (n : ℕ) (cs : List Call) (s : ℕ) (e : Edit) → refusal n (edit s e) (run n cs) ≡ None
     → left_of n (run n cs) ≡ left_of n (run n (cs ++ (edit s e ∷ []))) + need_of e (run n cs)
 
 -- ANSWERS
@@ -120,12 +119,12 @@ AnswersByHistory = (n : ℕ) (before : List Call) (c : Call) (rest : List Call)
 
 -- a refused call leaves the history unaltered
 abbrev pub RefusedKeeps : Type 0
-RefusedKeeps = (n i : ℕ) (c : Call) (h : History) (r : Refusal) → refusal n c h ≡ some r → step n i c h ≡ h
+RefusedKeeps = (n i : ℕ) (c : Call) (h : History) (r : Refusal) → refusal n c h ≡ Some r → step n i c h ≡ h
 
 -- VIEWS
 
 -- a header or a row that is not refused fits its buffer, and a row is one of the view's; a refused row leaves the view as it was
 pub record ViewsFit : Type 0 where
-  pub headers : (room : ℕ) (v : View) → header_refusal room v ≡ none → length (header_of v) ≤ room
-  pub rows : (room : ℕ) (v : View) (h : History) → row_refusal room v h ≡ none → (length (next_row v h) ≤ room) × (v.rows < v.height)
-  pub refused : (room : ℕ) (v : View) (h : History) (r : Refusal) → row_refusal room v h ≡ some r → after_row room v h ≡ v
+  pub headers : (room : ℕ) (v : View) → header_refusal room v ≡ None → length (header_of v) ≤ room
+  pub rows : (room : ℕ) (v : View) (h : History) → row_refusal room v h ≡ None → (length (next_row v h) ≤ room) × (v.rows < v.height)
+  pub refused : (room : ℕ) (v : View) (h : History) (r : Refusal) → row_refusal room v h ≡ Some r → after_row room v h ≡ v

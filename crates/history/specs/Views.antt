@@ -2,8 +2,7 @@
 --
 --   view   the number, the sheet's size when it was opened, the kind, and how many rows were given
 --   room   the length of the buffer that a header or a row is written to
-use Rattle.std.specs.Prelude.{ℕ, suc, not, ◌&&◌, List, [], ◌∷◌, ◌++◌, length, ◌==◌, nat_le, nat_lt}
-use Rattle.std.proofs.Math.Option.{Option, none, some}
+use Rattle.std.specs.Prelude.{ℕ, suc, not, ◌&&◌, List, [], ◌∷◌, ◌++◌, length, ◌==◌, nat_le, nat_lt, Option, None, Some}
 use Rattle.rules.specs.Bytes.{Kind, header, row_bytes}
 use Rattle.rules.specs.Refusals.{Refusal, bad_size, nowhere, short_buffer, Ground, first}
 use Rattle.history.specs.Histories.{History, sheet_of}
@@ -44,8 +43,8 @@ row_refusal room v h = first (row_grounds room v h)
 -- the view after a row was called for: one row more was given, or it is as it was
 abbrev pub after_row : ℕ → View → History → View
 after_row room v h = elim (row_refusal room v h) [
-  | none ↦ record { number = v.number; width = v.width; height = v.height; kind = v.kind; rows = suc v.rows }
-  | some r ↦ v
+  | None ↦ record { number = v.number; width = v.width; height = v.height; kind = v.kind; rows = suc v.rows }
+  | Some r ↦ v
 ]
 
 -- what closing tells: the rows given; it refuses nothing

@@ -1,6 +1,5 @@
 // Layer records: which layers a sheet has.
-ghost use Rattle.std.specs.Prelude.{◌≡◌, refl, ℕ};
-ghost use Rattle.std.proofs.Math.Option.{Option, none};
+ghost use Rattle.std.specs.Prelude.{◌≡◌, refl, ℕ, Option, None};
 ghost use Rattle.rules.specs.Cells.{record_word};
 ghost use Rattle.kinds.specs.Kinds.{Byte, record_value, word_record};
 ghost use Rattle.kinds.specs.Packings.{one_low, record_back};
@@ -21,7 +20,7 @@ impl CellKind for LayerRecords {
 
     ghost value = { record_value };
 
-    ghost blank = { none };
+    ghost blank = { None };
 
     ghost packed = { record_word };
 

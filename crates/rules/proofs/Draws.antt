@@ -1,6 +1,5 @@
 -- What drawing keeps.
-use Rattle.std.proofs.Common.{◌≡◌, ℕ, Bool, true, false, cond, not, ◌&&◌, T, eqb, List, [], ◌∷◌, refl, arith, T_not}
-use Rattle.std.proofs.Math.Option.{Option, none, some}
+use Rattle.std.proofs.Common.{◌≡◌, ℕ, Bool, true, false, cond, not, ◌&&◌, T, eqb, List, [], ◌∷◌, refl, arith, T_not, Option, None, Some}
 use Rattle.std.specs.List.{AllByRecursion, list_any}
 use Rattle.std.proofs.lemmas.Bool.{ne_eqb}
 use Rattle.std.proofs.Math.Dec.{eqb_refl}
@@ -72,7 +71,7 @@ opacities_bytes : (w h : ℕ) (e : Edit) (s : Sheet) → SoundEdit e → ((l : �
 opacities_bytes w h (stroke k pen ps) s g old l = old l
 opacities_bytes w h (fill k pen p) s g old l = old l
 opacities_bytes w h (frisket protects a b) s g old l = old l
-opacities_bytes w h (layer k o) s g old l = pick ByteOrNone (eqb l k) (some o) (s.opacity l) g (old l)
+opacities_bytes w h (layer k o) s g old l = pick ByteOrNone (eqb l k) (Some o) (s.opacity l) g (old l)
 
 pub draw_sound : (w h : ℕ) (e : Edit) (s : Sheet) → SoundEdit e → SoundSheet s → SoundSheet (draw w h e s)
 draw_sound w h e s g old = record { dots = dots_sound w h e s g old.dots; opacities = opacities_bytes w h e s g old.opacities }
@@ -88,8 +87,8 @@ pub drawn_sound : DrawnSound
 drawn_sound w h es g = all_sound w h es blank_sheet g (record { dots = λ l x y. blank_sound; opacities = λ l. tt })
 
 seen_sound : (o : Option ℕ) (d under : Dot) → ByteOrNone o → Sound d → Sound under → Sound (seen_through o d under)
-seen_sound none d under h s t = t
-seen_sound (some o) d under h s t = laid_sound over (faded o d) under (faded_sound o d h s) t
+seen_sound None d under h s t = t
+seen_sound (Some o) d under h s t = laid_sound over (faded o d) under (faded_sound o d h s) t
 
 layers_sound : (s : Sheet) → SoundSheet s → (x y : ℕ) (under : Dot) (ls : List ℕ) → Sound under → Sound (layers_over s x y under ls)
 layers_sound s k x y under [] t = t

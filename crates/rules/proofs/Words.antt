@@ -1,6 +1,5 @@
 -- Cells and their words.
-use Rattle.std.proofs.Common.{◌≡◌, ℕ, ◌+◌, ◌-◌, cond, refl, ap, ◌∙◌, arith}
-use Rattle.std.proofs.Math.Option.{Option, none, some}
+use Rattle.std.proofs.Common.{◌≡◌, ℕ, ◌+◌, ◌-◌, cond, refl, ap, ◌∙◌, arith, Option, None, Some}
 use Rattle.std.proofs.lemmas.Bool.{ne_eqb}
 use Rattle.rules.specs.Dots.{Dot, Sound}
 use Rattle.rules.specs.Cells.{dot_word, word_dot, record_word, word_record}
@@ -32,7 +31,7 @@ strips_pack = record { blank_zero = refl; back = binary_back 32; word = binary_b
 pub records_pack : RecordsPack
 records_pack = record { blank_zero = refl; none_back = refl; back = back; word = λ o h. omega arith }
   where
-    back : (o : ℕ) → word_record (record_word (some o)) ≡ some o
+    back : (o : ℕ) → word_record (record_word (Some o)) ≡ Some o
     back o =
         let e : 256 + o - 256 ≡ o = omega arith in
-        ap (λ b. cond {A = Option ℕ} b none (some (256 + o - 256))) (ne_eqb (256 + o) 0 (λ z. omega arith)) ∙ ap some e
+        ap (λ b. cond {A = Option ℕ} b None (Some (256 + o - 256))) (ne_eqb (256 + o) 0 (λ z. omega arith)) ∙ ap Some e

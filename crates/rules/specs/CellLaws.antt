@@ -1,6 +1,5 @@
 -- What is proved of cells, their words and their indices.
-use Rattle.std.specs.Prelude.{◌≡◌, ℕ, ◌+◌, ◌*◌, ◌/◌, ◌%◌, ◌^◌, ◌<◌, ◌≤◌, Bool, false}
-use Rattle.std.proofs.Math.Option.{none, some}
+use Rattle.std.specs.Prelude.{◌≡◌, ℕ, ◌+◌, ◌*◌, ◌/◌, ◌%◌, ◌^◌, ◌<◌, ◌≤◌, Bool, false, None, Some}
 use Rattle.rules.specs.Dots.{Dot, Sound, blank}
 use Rattle.rules.specs.Cells.{dot_word, word_dot, dot_index, dot_column, dot_row, strip_word, word_strip, strip_index, record_word, word_record}
 
@@ -19,10 +18,10 @@ pub record StripsPack : Type 0 where
 
 -- a record can be had back from its word, and the word of no record is 0
 pub record RecordsPack : Type 0 where
-  pub blank_zero : ◌≡◌ {A = ℕ} (record_word none) 0
-  pub none_back : word_record (record_word none) ≡ none
-  pub back : (opacity : ℕ) → word_record (record_word (some opacity)) ≡ some opacity
-  pub word : (opacity : ℕ) → opacity ≤ 255 → record_word (some opacity) < 2 ^ 32
+  pub blank_zero : ◌≡◌ {A = ℕ} (record_word None) 0
+  pub none_back : word_record (record_word None) ≡ None
+  pub back : (opacity : ℕ) → word_record (record_word (Some opacity)) ≡ Some opacity
+  pub word : (opacity : ℕ) → opacity ≤ 255 → record_word (Some opacity) < 2 ^ 32
 
 -- the index of a dot and its column and row are inverse to each other
 pub record DotsPlaced : Type 0 where

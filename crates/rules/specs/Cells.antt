@@ -5,8 +5,7 @@
 --   strip    32 dots of a row, each protected or not, the leftmost first
 --   record   a layer's opacity; a layer without one does not exist
 --   depth    of a tree: its indices have that many digits in base 16
-use Rattle.std.specs.Prelude.{ℕ, ◌+◌, ◌-◌, ◌*◌, ◌/◌, ◌%◌, ◌^◌, Bool, cond, List, map, ◌==◌, nat_lt}
-use Rattle.std.proofs.Math.Option.{Option, none, some}
+use Rattle.std.specs.Prelude.{ℕ, ◌+◌, ◌-◌, ◌*◌, ◌/◌, ◌%◌, ◌^◌, Bool, cond, List, map, ◌==◌, nat_lt, Option, None, Some}
 use Rattle.std.specs.List.{flat_map, range_with_len}
 use Rattle.rules.specs.Dots.{Dot}
 use Rattle.rules.specs.Lists.{below, total, binary, binary_digit}
@@ -51,11 +50,11 @@ strip_at protected i b = protected (32 * (i % 8) + b) (i / 8)
 
 -- a layer's record as a word, and back; a layer's record stands at the layer's number
 abbrev pub record_word : Option ℕ → ℕ
-record_word none = 0
-record_word (some opacity) = 256 + opacity
+record_word None = 0
+record_word (Some opacity) = 256 + opacity
 
 abbrev pub word_record : ℕ → Option ℕ
-word_record w = cond (w == 0) none (some (w - 256))
+word_record w = cond (w == 0) None (Some (w - 256))
 
 -- the trees: 0 to 7 the dots of a layer, 8 the strips, 9 the layers' records
 abbrev pub strips : ℕ

@@ -1,6 +1,5 @@
 -- What is proved of edits and of drawn sheets.
-use Rattle.std.specs.Prelude.{◌≡◌, ℕ, ◌/◌, ◌^◌, ◌<◌, ◌≤◌, Bool, false, not, T, ◌↔◌, List, [], ◌≢◌, nat_eq}
-use Rattle.std.proofs.Math.Option.{Option, none, some}
+use Rattle.std.specs.Prelude.{◌≡◌, ℕ, ◌/◌, ◌^◌, ◌<◌, ◌≤◌, Bool, false, not, T, ◌↔◌, List, [], ◌≢◌, nat_eq, Option, None, Some}
 use Rattle.std.specs.List.{AllByRecursion, list_any}
 use Rattle.rules.specs.Pictures.{inked, box, flat_dot}
 use Rattle.rules.specs.Dots.{Sound, blank}
@@ -39,8 +38,8 @@ SoundEdit (layer l o) = o ≤ 255
 
 -- an opacity, if there is one, is a byte
 abbrev pub ByteOrNone : Option ℕ → Type 0
-ByteOrNone none = Unit {0}
-ByteOrNone (some o) = o ≤ 255
+ByteOrNone None = Unit {0}
+ByteOrNone (Some o) = o ≤ 255
 
 -- no dot has a colour above its alpha, layers or flat, and alphas and opacities are bytes
 pub record SoundSheet (s : Sheet) : Type 0 where
@@ -97,8 +96,8 @@ Between c d p = (c.0 ≤ p.0) × (c.1 ≤ p.1) × (p.0 ≤ d.0) × (p.1 ≤ d.1)
 
 -- a box holds all the points, every rectangle that does holds the box, and there is none only where there is no point
 abbrev pub Boxed : List Point → Option (Point × Point) → Type 0
-Boxed ps none = ps ≡ []
-Boxed ps (some b) = AllByRecursion (Between b.0 b.1) ps × ((c d : Point) → AllByRecursion (Between c d) ps → Between c d b.0 × Between c d b.1)
+Boxed ps None = ps ≡ []
+Boxed ps (Some b) = AllByRecursion (Between b.0 b.1) ps × ((c d : Point) → AllByRecursion (Between c d) ps → Between c d b.0 × Between c d b.1)
 
 abbrev pub BoxSmallest : Type 0
 BoxSmallest = (w h : ℕ) (s : Sheet) (l : ℕ) → Boxed (inked w h s l) (box w h s l)

@@ -2,8 +2,7 @@
 --
 --   pen    an ink, the side of the square that it leaves round each dot of a line, and a rule
 --   side   1, 3, 5 or 7, so that the square has a middle
-use Rattle.std.specs.Prelude.{ℕ, Bool, cond, ◌&&◌, ◌||◌, ◌==◌, nat_le}
-use Rattle.std.proofs.Math.Option.{Option, none, some}
+use Rattle.std.specs.Prelude.{ℕ, Bool, cond, ◌&&◌, ◌||◌, ◌==◌, nat_le, Option, None, Some}
 use Rattle.rules.specs.Dots.{Dot, Rule, over, erase}
 
 pub record Pen : Type 0 where
@@ -25,7 +24,7 @@ rule_numbered n = cond (n == 0) over erase
 
 -- the pen of an ink, a side and a rule's number, or none where making it is refused
 abbrev pub make_pen : Dot → ℕ → ℕ → Option Pen
-make_pen d side n = cond (good_side side && nat_le n 1 && good_ink d) (some (record { ink = d; side = side; rule = rule_numbered n })) none
+make_pen d side n = cond (good_side side && nat_le n 1 && good_ink d) (Some (record { ink = d; side = side; rule = rule_numbered n })) None
 
 -- opaque black
 abbrev pub black : Dot

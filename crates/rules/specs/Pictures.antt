@@ -3,8 +3,7 @@
 --   flat dot   the layers that have a record, 0 upward, each at its opacity, laid over one another from blank on
 --   inked      not blank
 --   box        the smallest rectangle round a layer's inked dots, by its corners at the top left and the bottom right
-use Rattle.std.specs.Prelude.{ℕ, min, max, not, List, [], ◌∷◌, map, length}
-use Rattle.std.proofs.Math.Option.{Option, none, some}
+use Rattle.std.specs.Prelude.{ℕ, min, max, not, List, [], ◌∷◌, map, length, Option, None, Some}
 use Rattle.std.specs.List.{filter}
 use Rattle.rules.specs.Lists.{below, total}
 use Rattle.rules.specs.Dots.{Dot, blank, same_dot, over, laid, faded}
@@ -14,8 +13,8 @@ use Rattle.rules.specs.Sheets.{Sheet}
 
 -- a layer's dot laid on what is seen below it, if the layer has a record
 abbrev pub seen_through : Option ℕ → Dot → Dot → Dot
-seen_through none d under = under
-seen_through (some opacity) d under = laid over (faded opacity d) under
+seen_through None d under = under
+seen_through (Some opacity) d under = laid over (faded opacity d) under
 
 -- the layers of a list, in order, laid on what is seen so far
 abbrev pub layers_over : Sheet → ℕ → ℕ → Dot → List ℕ → Dot
@@ -45,8 +44,8 @@ widened b (q ∷ qs) = widened (wider b q) qs
 
 -- the smallest rectangle round some points, or none
 abbrev pub box_of : List Point → Option (Point × Point)
-box_of [] = none
-box_of (p ∷ ps) = some (widened (p, p) ps)
+box_of [] = None
+box_of (p ∷ ps) = Some (widened (p, p) ps)
 
 -- a layer's box
 abbrev pub box : ℕ → ℕ → Sheet → ℕ → Option (Point × Point)

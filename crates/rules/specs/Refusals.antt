@@ -3,8 +3,7 @@
 --   refusal   one of the grounds below
 --   numbers   the refusal's own number, and behind it that of the layer below where one was its cause
 --   ground    a test, and the refusal that is given where it passes
-use Rattle.std.specs.Prelude.{ℕ, Bool, cond, List, [], ◌∷◌}
-use Rattle.std.proofs.Math.Option.{Option, none, some}
+use Rattle.std.specs.Prelude.{ℕ, Bool, cond, List, [], ◌∷◌, Option, None, Some}
 
 pub data Refusal : Type 0 where
   not_started : Refusal
@@ -42,5 +41,5 @@ Ground = Bool × Refusal
 
 -- the first ground, in order, whose test passes
 abbrev pub first : List Ground → Option Refusal
-first [] = none
-first (g ∷ gs) = cond g.0 (some g.1) (first gs)
+first [] = None
+first (g ∷ gs) = cond g.0 (Some g.1) (first gs)

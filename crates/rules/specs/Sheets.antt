@@ -6,8 +6,7 @@
 --   draw      an edit done on a sheet
 --   drawn     a line of edits, drawn in order on a blank sheet
 --   changed   a cell is changed by an edit when its word differs after it
-use Rattle.std.specs.Prelude.{ℕ, Bool, false, cond, not, ◌&&◌, List, [], ◌∷◌, ◌==◌, nat_lt}
-use Rattle.std.proofs.Math.Option.{Option, none, some}
+use Rattle.std.specs.Prelude.{ℕ, Bool, false, cond, not, ◌&&◌, List, [], ◌∷◌, ◌==◌, nat_lt, Option, None, Some}
 use Rattle.std.specs.List.{filter}
 use Rattle.rules.specs.Dots.{Dot, blank, same_dot, laid}
 use Rattle.rules.specs.Pens.{Pen}
@@ -23,7 +22,7 @@ pub record Sheet : Type 0 where
 
 -- the sheet on which nothing was done
 abbrev pub blank_sheet : Sheet
-blank_sheet = record { dot = λ layer x y. blank; protected = λ x y. false; opacity = λ layer. none }
+blank_sheet = record { dot = λ layer x y. blank; protected = λ x y. false; opacity = λ layer. None }
 
 -- an edit, with all that it was given
 pub data Edit : Type 0 where
@@ -56,7 +55,7 @@ draw w h (frisket protects a b) s = record {
   protected = λ x y. cond (on_sheet w h (x, y) && in_rectangle a b x y) protects (s.protected x y);
   opacity = s.opacity;
 }
-draw w h (layer l o) s = record { dot = s.dot; protected = s.protected; opacity = λ k. cond (k == l) (some o) (s.opacity k) }
+draw w h (layer l o) s = record { dot = s.dot; protected = s.protected; opacity = λ k. cond (k == l) (Some o) (s.opacity k) }
 
 -- edits drawn in order on a sheet
 abbrev pub drawn_on : ℕ → ℕ → Sheet → List Edit → Sheet

@@ -1,11 +1,8 @@
 -- Of snapshots that stand in the order of their making the one made latest is the last.
-use Rattle.std.proofs.Common.{◌≡◌, ℕ, ◌<◌, Bool, true, false, cond, eqb, List, [], ◌∷◌, Some, None, sym, refl, ap, ◌∙◌, lt-ltb}
-use Rattle.std.proofs.Math.Option.{Option, none, some}
+use Rattle.std.proofs.Common.{◌≡◌, ℕ, ◌<◌, Bool, true, false, cond, eqb, List, [], ◌∷◌, Some, None, sym, refl, ap, ◌∙◌, lt-ltb, Option}
 use Rattle.std.specs.List.{AllByRecursion, filter}
-use Rattle.std.specs.declared.option.Option as option
 use Rattle.std.specs.Option.{option_or}
 use Rattle.history.specs.Histories.{Snapshot, last_place, stands_under, latest_from}
-use Rattle.calls.specs.Told.{maybe}
 use Rattle.table.specs.Tables.{parent_at, is_number}
 use Rattle.table.specs.declared.records.Snapshot as table
 use Rattle.standing.specs.Standing.{Ordered}
@@ -37,23 +34,23 @@ filter_ordered f (p ∷ ps) o = go (f p) (filter_ordered f ps o.1)
     go false r = r
 
 -- whether a snapshot of the table stands under s
-same_parent : (s : ℕ) (o : option.Option ℕ) (q : Option ℕ) → maybe o ≡ q → is_number s o ≡ elim q [ none ↦ false | some r ↦ eqb r s ]
-same_parent s None q e = ap (λ (o : Option ℕ). elim o [ none ↦ false | some r ↦ eqb r s ]) e
-same_parent s (Some r) q e = ap (λ (o : Option ℕ). elim o [ none ↦ false | some r ↦ eqb r s ]) e
+same_parent : (s : ℕ) (o : Option ℕ) → is_number s o ≡ elim o [ None ↦ false | Some r ↦ eqb r s ]
+same_parent s None = refl
+same_parent s (Some r) = refl
 
-abbrev pub Agrees : List (option.Option table.Snapshot) → Snapshot → Type 0
-Agrees ss p = maybe (parent_at ss p.number) ≡ p.parent
+abbrev pub Agrees : List (Option table.Snapshot) → Snapshot → Type 0
+Agrees ss p = parent_at ss p.number ≡ p.parent
 
-pub same_under : (ss : List (option.Option table.Snapshot)) (s : ℕ) (p : Snapshot) → Agrees ss p → is_number s (parent_at ss p.number) ≡ stands_under s p
-same_under ss s p a = same_parent s (parent_at ss p.number) p.parent a
+pub same_under : (ss : List (Option table.Snapshot)) (s : ℕ) (p : Snapshot) → Agrees ss p → is_number s (parent_at ss p.number) ≡ stands_under s p
+same_under ss s p a = ap (is_number s) a ∙ same_parent s p.parent
 
 -- the number of the last on a list
 abbrev last_number : List Snapshot → Option ℕ
-last_number [] = none
-last_number (p ∷ ps) = some (last_from p ps).number
+last_number [] = None
+last_number (p ∷ ps) = Some (last_from p ps).number
 
-or_last : (o : option.Option ℕ) (q : ℕ) (ps : List Snapshot) (p : Snapshot) → p.number ≡ q → maybe o ≡ last_number ps → maybe (option_or o (Some q)) ≡ last_number (p ∷ ps)
-or_last None q [] p e f = ap some (sym e)
+or_last : (o : Option ℕ) (q : ℕ) (ps : List Snapshot) (p : Snapshot) → p.number ≡ q → o ≡ last_number ps → option_or o (Some q) ≡ last_number (p ∷ ps)
+or_last None q [] p e f = ap Some (sym e)
 or_last (Some r) q [] p e f = cc
 or_last None q (r ∷ ps) p e f = cc
 or_last (Some t) q (r ∷ ps) p e f = f

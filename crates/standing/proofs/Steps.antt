@@ -1,7 +1,5 @@
 -- A call that is refused, and one that is not.
-use Rattle.std.proofs.Common.{◌≡◌, ℕ, suc, ◌<◌, ◌≤◌, Bool, true, false, not, T, eqb, List, [], ◌∷◌, Some, None, sym, refl, ap, ◌∙◌, subst, arith}
-use Rattle.std.proofs.Math.Option.{Option, none, some}
-use Rattle.std.specs.declared.option.Option as option
+use Rattle.std.proofs.Common.{◌≡◌, ℕ, suc, ◌<◌, ◌≤◌, Bool, true, false, not, T, eqb, List, [], ◌∷◌, Some, None, sym, refl, ap, ◌∙◌, subst, arith, Option}
 use Rattle.rules.specs.Refusals.{Refusal, numbers, not_started, not_live}
 use Rattle.rules.proofs.Tests.{is_false}
 use Rattle.history.specs.Histories.{History, started, is_live}
@@ -38,18 +36,18 @@ module _ (n i : ℕ) (c : State) (h : History) (k : Kept n i c h) where
     inked = k.inked;
   }
 
-  pub kept_refused : (a : Call) (ns : List ℕ) → some ns ≡ verdict (grounds n a h) → Kept n (suc i) c (step n i a h) × (refused ns ≡ answer n a h)
+  pub kept_refused : (a : Call) (ns : List ℕ) → Some ns ≡ verdict (grounds n a h) → Kept n (suc i) c (step n i a h) × (refused ns ≡ answer n a h)
   kept_refused a ns e = go (refusal n a h) e
     where
-      go : (o : Option Refusal) → some ns ≡ elim o [ none ↦ none | some r ↦ some (numbers r) ] → Kept n (suc i) c (elim o [ none ↦ carried_out i a h | some r ↦ h ]) × (refused ns ≡ elim o [ none ↦ reply n a h | some r ↦ refused (numbers r) ])
-      go none f = cc
-      go (some r) f = (same_kept, (let z : ns ≡ numbers r = cc in ap refused z))
+      go : (o : Option Refusal) → Some ns ≡ elim o [ None ↦ None | Some r ↦ Some (numbers r) ] → Kept n (suc i) c (elim o [ None ↦ carried_out i a h | Some r ↦ h ]) × (refused ns ≡ elim o [ None ↦ reply n a h | Some r ↦ refused (numbers r) ])
+      go None f = cc
+      go (Some r) f = (same_kept, (let z : ns ≡ numbers r = cc in ap refused z))
 
-  pub kept_granted : (a : Call) (said : Answer) (d : State) → none ≡ verdict (grounds n a h) → Kept n (suc i) d (carried_out i a h) → said ≡ reply n a h → Kept n (suc i) d (step n i a h) × (said ≡ answer n a h)
+  pub kept_granted : (a : Call) (said : Answer) (d : State) → None ≡ verdict (grounds n a h) → Kept n (suc i) d (carried_out i a h) → said ≡ reply n a h → Kept n (suc i) d (step n i a h) × (said ≡ answer n a h)
   kept_granted a said d e j f =
       let g = none_first (grounds n a h) e in (
-        subst (Kept n (suc i) d) (sym (ap (λ (o : Option Refusal). elim o [ none ↦ carried_out i a h | some r ↦ h ]) g)) j,
-        f ∙ sym (ap (λ (o : Option Refusal). elim o [ none ↦ reply n a h | some r ↦ refused (numbers r) ]) g),
+        subst (Kept n (suc i) d) (sym (ap (λ (o : Option Refusal). elim o [ None ↦ carried_out i a h | Some r ↦ h ]) g)) j,
+        f ∙ sym (ap (λ (o : Option Refusal). elim o [ None ↦ reply n a h | Some r ↦ refused (numbers r) ]) g),
       )
 
   -- a number is live just where it has a root
@@ -75,21 +73,21 @@ module _ (n i : ℕ) (c : State) (h : History) (k : Kept n i c h) where
 
   -- before start and after it
   pub idle : c.size ≡ None → started h ≡ false
-  idle e = subst (λ (o : option.Option Size). Sized o h) e k.size
+  idle e = subst (λ (o : Option Size). Sized o h) e k.size
 
   pub busy : (z : Size) → c.size ≡ Some z → (started h ≡ true) × (z.width ≡ h.width) × (z.height ≡ h.height)
-  busy z e = subst (λ (o : option.Option Size). Sized o h) e k.size
+  busy z e = subst (λ (o : Option Size). Sized o h) e k.size
 
-  pub idle_stops : c.size ≡ None → some (numbers not_started) ≡ verdict ((not (started h), not_started) ∷ [])
+  pub idle_stops : c.size ≡ None → Some (numbers not_started) ≡ verdict ((not (started h), not_started) ∷ [])
   idle_stops e = sym (here (not (started h)) not_started [] (ap not (idle e)))
 
-  pub busy_passes : (z : Size) → c.size ≡ Some z → none ≡ verdict ((not (started h), not_started) ∷ [])
+  pub busy_passes : (z : Size) → c.size ≡ Some z → None ≡ verdict ((not (started h), not_started) ∷ [])
   busy_passes z e = sym (past (not (started h)) not_started [] (ap not (busy z e).0))
 
   -- what is asked of a snapshot
   module _ (z : Size) (e : c.size ≡ Some z) (s : ℕ) where
-    pub dead_stops : is_live s h ≡ false → some (numbers not_live) ≡ verdict (of_snapshot s h)
+    pub dead_stops : is_live s h ≡ false → Some (numbers not_live) ≡ verdict (of_snapshot s h)
     dead_stops f = sym (past (not (started h)) not_started ((not (is_live s h), not_live) ∷ []) (ap not (busy z e).0) ∙ here (not (is_live s h)) not_live [] (ap not f))
 
-    pub live_passes : is_live s h ≡ true → none ≡ verdict (of_snapshot s h)
+    pub live_passes : is_live s h ≡ true → None ≡ verdict (of_snapshot s h)
     live_passes f = sym (past (not (started h)) not_started ((not (is_live s h), not_live) ∷ []) (ap not (busy z e).0) ∙ past (not (is_live s h)) not_live [] (ap not f))

@@ -13,7 +13,6 @@ use Rattle.history.specs.Histories.{Entry, Snapshot, History, started, is_live, 
 use Rattle.history.specs.Laws.{SoundHistory}
 use Rattle.root.specs.Sheets.{places}
 use Rattle.bridge.specs.Shows.{Shows, last_edits}
-use Rattle.calls.specs.Told.{maybe}
 use Rattle.calls.specs.declared.shapes.Size.{Size}
 use Rattle.table.specs.Tables.{parent_at}
 use Rattle.standing.specs.States.{State, root_of}
@@ -37,7 +36,7 @@ pub record Kept (n i : ℕ) (c : State) (h : History) : Type 0 where
   pub shows : Shows depth places c.blocks (root_of c.snapshots) (λ s. word_of (sheet_of s h)) (last_edits h)
   -- a number has a root block just where it is live
   pub live : (s : ℕ) → s < places → (root_of c.snapshots s == 0) ≡ not (is_live s h)
-  pub parents : AllByRecursion (λ p. maybe (parent_at c.snapshots p.number) ≡ p.parent) h.live
+  pub parents : AllByRecursion (λ p. parent_at c.snapshots p.number ≡ p.parent) h.live
   pub made : c.made ≡ map (λ p. p.number) h.live
   pub size : Sized c.size h
   pub head : c.head ≡ h.head

@@ -7,7 +7,6 @@
 --   verdict    the numbers of the first ground of refusal that holds, or none
 --   stopped    the numbers by which a call was refused, or none
 use Rattle.std.specs.Prelude.{ℕ, List, Some, None, Ok, Err, Option, Result}
-use Rattle.std.proofs.Math.Option as option
 use Rattle.block.specs.Blocks.{Blocks}
 use Rattle.rules.specs.Cells.{depth}
 use Rattle.rules.specs.Refusals.{Ground, first, numbers}
@@ -38,9 +37,9 @@ root_of ss s = root_word (at ss s)
 abbrev pub cell_of : State → ℕ → ℕ → ℕ → ℕ
 cell_of c s t i = lookup c.blocks (depth t) (child c.blocks (root_of c.snapshots s) t) i
 
-abbrev pub verdict : List Ground → option.Option (List ℕ)
-verdict gs = elim (first gs) [ option.none ↦ option.none | option.some r ↦ option.some (numbers r) ]
+abbrev pub verdict : List Ground → Option (List ℕ)
+verdict gs = elim (first gs) [ None ↦ None | Some r ↦ Some (numbers r) ]
 
-abbrev pub stopped : {A : Type 0} → Result A Refusal → option.Option (List ℕ)
-stopped (Ok x) = option.none
-stopped (Err e) = option.some (numbers_of e)
+abbrev pub stopped : {A : Type 0} → Result A Refusal → Option (List ℕ)
+stopped (Ok x) = None
+stopped (Err e) = Some (numbers_of e)

@@ -2,8 +2,7 @@
 --
 --   broad    a black pen of side 3
 --   rubber   an opaque pen of side 1 that erases
-use Rattle.std.specs.Prelude.{ℕ, ◌≡◌, true, false, List, [], ◌∷◌, map, replicate}
-use Rattle.std.proofs.Math.Option.{none, some}
+use Rattle.std.specs.Prelude.{ℕ, ◌≡◌, true, false, List, [], ◌∷◌, map, replicate, None, Some}
 use Rattle.rules.specs.Dots.{over, erase, blank}
 use Rattle.rules.specs.Pens.{Pen, first_pen, black}
 use Rattle.rules.specs.Sheets.{stroke, fill, frisket, layer}
@@ -68,7 +67,7 @@ Refusals =
     ∷ (ask_dot 2 1 (9, 9), refused (16 ∷ []))
     ∷ (ask_dot 2 0 (9, 9), refused (17 ∷ []))
     ∷ (ask_record 0 0, refused (16 ∷ []))
-    ∷ (ask_record 63 0, number_or_none (some 200))
+    ∷ (ask_record 63 0, number_or_none (Some 200))
     ∷ (open_view 9 mask, refused (15 ∷ []))
     ∷ (open_view 2 mask, view 2 3 3 mask)
     ∷ [])
@@ -88,9 +87,9 @@ Redone =
     ∷ (ask_head, number 3)
     ∷ (go 0, done)
     ∷ (forget 1, done)
-    ∷ (ask_parent 2, number_or_none (some 0))
-    ∷ (ask_parent 3, number_or_none (some 0))
-    ∷ (ask_parent 0, number_or_none none)
+    ∷ (ask_parent 2, number_or_none (Some 0))
+    ∷ (ask_parent 3, number_or_none (Some 0))
+    ∷ (ask_parent 0, number_or_none None)
     ∷ (redo, done)
     ∷ (ask_head, number 3)
     ∷ (ask_protected 3 (1, 1), truth true)
@@ -103,16 +102,16 @@ Fills =
     Answered 100
     ((start 5 5, done)
     ∷ (edit 1 (layer 0 255), done)
-    ∷ (ask_box 1 0, rectangle none)
+    ∷ (ask_box 1 0, rectangle None)
     ∷ (edit 2 (stroke 0 first_pen ((1, 1) ∷ (3, 1) ∷ (3, 3) ∷ (1, 3) ∷ (1, 1) ∷ [])), done)
     ∷ (ask_inked 2, number 8)
-    ∷ (ask_box 2 0, rectangle (some ((1, 1), (3, 3))))
+    ∷ (ask_box 2 0, rectangle (Some ((1, 1), (3, 3))))
     ∷ (edit 3 (fill 0 broad (2, 2)), done)
     ∷ (ask_inked 3, number 9)
     ∷ (go 2, done)
     ∷ (edit 4 (fill 0 broad (0, 0)), done)
     ∷ (ask_inked 4, number 24)
-    ∷ (ask_box 4 0, rectangle (some ((0, 0), (4, 4))))
+    ∷ (ask_box 4 0, rectangle (Some ((0, 0), (4, 4))))
     ∷ (ask_dot 4 0 (2, 2), dot blank)
     ∷ (ask_flat 4 (0, 0), dot black)
     ∷ (go 1, done)

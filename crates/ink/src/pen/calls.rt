@@ -1,5 +1,4 @@
 // Making pens and reading them.
-ghost use Rattle.std.proofs.Math.Option.{none, some};
 ghost use Rattle.std.specs.Prelude.{◌≡◌, MatchResult};
 ghost use Rattle.ink.specs.Meanings.{channels_of, dot_of, fault_of, pen_of, rule_of};
 ghost use Rattle.rules.specs.Pens.{first_pen, make_pen};
@@ -12,7 +11,7 @@ use crate::rule::Rule;
 impl Pen {
     // A pen of four numbers, a side and a rule's number; the first of them that is wrong is told.
     pub fn new(ink: Channels, side: u8, rule: u8) -> Result<Pen, PenRefusal>
-        ensures answer { MatchResult result (λ pen. make_pen (channels_of ink) side rule ≡ some (pen_of pen)) (λ e. (make_pen (channels_of ink) side rule ≡ none) × (fault_of ink side rule ≡ some e)) }
+        ensures answer { MatchResult result (λ pen. make_pen (channels_of ink) side rule ≡ Some (pen_of pen)) (λ e. (make_pen (channels_of ink) side rule ≡ None) × (fault_of ink side rule ≡ Some e)) }
     {
         if !matches!(side, 1 | 3 | 5 | 7) {
             return Err(PenRefusal::Side(side));
