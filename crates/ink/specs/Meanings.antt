@@ -11,8 +11,7 @@
 --   MakesDot      what is made of four numbers: the dot that they are, or the refusal where a colour is above alpha
 --   MakesRule     what is made of a number: the rule that it numbers, or the refusal above 1
 --   fault_of      what is wrong with a pen that cannot be made: the side before the rule, the rule before the colour
-use Rattle.std.specs.Prelude.{◌≡◌, ℕ, ◌<◌, ◌≤◌, true, false, cond, not, List, [], ◌∷◌, map, nat_lt, Result, MatchResult}
-use Rattle.std.proofs.Math.Option.{Option, none, some}
+use Rattle.std.specs.Prelude.{◌≡◌, ℕ, ◌<◌, ◌≤◌, true, false, cond, not, List, [], ◌∷◌, map, nat_lt, Result, MatchResult, Option, None, Some}
 use Rattle.rules.specs.Dots as dots
 use Rattle.rules.specs.Pens as pens
 use Rattle.rules.specs.Refusals.{bad_pen, numbers}
@@ -62,8 +61,8 @@ MakesRule number result =
 
 abbrev pub fault_of : Channels → ℕ → ℕ → Option refusal.PenRefusal
 fault_of c side number =
-    cond (not (pens.good_side side)) (some (refusals.Side side))
-    (cond (nat_lt 1 number) (some (refusals.Rule number)) (cond (pens.good_ink (channels_of c)) none (some refusals.Colour)))
+    cond (not (pens.good_side side)) (Some (refusals.Side side))
+    (cond (nat_lt 1 number) (Some (refusals.Rule number)) (cond (pens.good_ink (channels_of c)) None (Some refusals.Colour)))
 
 -- all of them are told by one number
 abbrev pub numbers_of : refusal.PenRefusal → List ℕ

@@ -1,8 +1,7 @@
 -- That the kinds keep the laws of kinds: what the members of the code cite.
-use Rattle.std.specs.Prelude.{ℕ, ◌≤◌, ◌≡◌, refl, true}
+use Rattle.std.specs.Prelude.{ℕ, ◌≤◌, ◌≡◌, refl, true, Option, None, Some}
 use Rattle.std.proofs.lemmas.Bool.Decides.{nat_tests}
 use Rattle.std.proofs.Common.{ap, ◌∙◌, arith}
-use Rattle.std.proofs.Math.Option.{Option, none, some}
 use Rattle.rules.specs.Cells.{dot_word, record_word}
 use Rattle.rules.specs.Dots.{Dot, Sound}
 use Rattle.rules.specs.Pens.{good_ink}
@@ -25,5 +24,5 @@ pub dot_back : (d : Dot) → Sound d → word_cell (dot_word d) ≡ d
 dot_back d s = let back = dots_pack.back d s in rw (ap good_ink back ∙ sound_good d s) back
 
 pub record_back : (r : Option ℕ) → Byte r → word_record (record_word r) ≡ r
-record_back none h = refl
-record_back (some o) h = grind (arith, nat_tests)
+record_back None h = refl
+record_back (Some o) h = grind (arith, nat_tests)

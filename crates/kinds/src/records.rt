@@ -1,7 +1,7 @@
 // Layer records: which layers a sheet has.
 ghost use Rattle.std.specs.Prelude.{◌≡◌, refl, ℕ, Option, None};
 ghost use Rattle.rules.specs.Cells.{record_word};
-ghost use Rattle.kinds.specs.Kinds.{Byte, record_value, word_record};
+ghost use Rattle.kinds.specs.Kinds.{Byte, word_record};
 ghost use Rattle.kinds.specs.Packings.{one_low, record_back};
 
 use tree::CellKind;
@@ -18,7 +18,7 @@ impl CellKind for LayerRecords {
 
     ghost Value = { Option ℕ };
 
-    ghost value = { record_value };
+    ghost value = { λ r. r };
 
     ghost blank = { None };
 
