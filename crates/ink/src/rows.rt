@@ -22,6 +22,7 @@ pub fn lay_ink<R: InkRule>(rule: &R, ink: Dot, dots: &mut [Dot])
 }
 
 // A row of inks laid on a row of dots, each on the dot at its place; dots past the inks stay.
+// Not by a `zip` with `iter_mut`: after that, nothing is known of the dots.
 pub fn lay_row<R: InkRule>(rule: &R, inks: &[Dot], dots: &mut [Dot])
     ensures after { dots_of dots.new ≡ laid_row (R.InkRule.lays rule.now) (dots_of inks.now) (dots_of dots.old) }
 {
