@@ -1,35 +1,13 @@
 -- A block is taken and filled.
-use Rattle.std.proofs.Common.{◌≡◌, ℕ, zero, suc, ◌+◌, ◌-◌, ◌<◌, ◌≤◌, Bool, true, false, cond, ltb, ◌≢◌, is_ok, IfOk, Ok, Err, Result, sym, refl, ap, ◌∙◌, subst, add-one, arith, le-ltb, ne_eqb}
-use Rattle.std.proofs.Math.Path.{fun_ext}
+use Rattle.std.proofs.Common.{◌≡◌, ℕ, zero, suc, ◌+◌, ◌<◌, ◌≤◌, Bool, true, false, cond, ltb, ◌≢◌, is_ok, Ok, Result, sym, refl, ap, ◌∙◌, subst, add-one, arith, le-ltb, ne_eqb}
 use Rattle.std.proofs.Math.Decide.{ℕ_discrete}
 use Rattle.std.proofs.lemmas.Bool.Decides.{nat_tests}
 use Rattle.block.specs.Blocks.{Blocks, sum_to}
-use Rattle.block.specs.Calls.{taken, kept, written, put_answer, refused_if, Picked}
-use Rattle.forest.specs.Balance.{hit, hold}
-use Rattle.forest.specs.Fills.{Filled, Room, held}
+use Rattle.block.specs.Calls.{taken, written, put_answer, refused_if, Picked}
+use Rattle.forest.specs.Balance.{hold}
+use Rattle.forest.specs.Fills.{Room, held}
 use Rattle.block.specs.declared.refusals.Refusal.{Refusal}
 use Rattle.block.proofs.Sums.{sum_ones}
-use Rattle.forest.proofs.Balances.{hit_self, hit_other}
-
-with_holders : (m : Blocks) (f : ℕ → ℕ) → ((c : ℕ) → m.holders c ≡ f c) → m ≡ record { size = m.size; holders = f; word = m.word }
-with_holders m f h = ap (λ (v : ℕ → ℕ). record { size = m.size; holders = v; word = m.word }) (fun_ext h)
-
-pub held_none : (k w : ℕ) (m : Blocks) → ((c : ℕ) → hold k w c ≡ 0) → m ≡ held k w m
-held_none k w m h = with_holders m (λ c. m.holders c + hold k w c) (λ c. omega (arith, h c))
-
-pub held_kept : (k b : ℕ) (m : Blocks) → kept m b ≡ held (suc k) (suc b) m
-held_kept k b m = with_holders (kept m b) (λ c. m.holders c + hit (suc b) c) (λ c. elim (ℕ_discrete c b) [
-  | yes e ↦ let x = ap m.holders e in let v = ap (hit (suc b)) e ∙ hit_self b in grind (arith, nat_tests)
-  | no d ↦ let v = hit_other b c d in grind (arith, nat_tests)
-])
-
-pub kept_cases : (k w : ℕ) (m n : Blocks) (fresh : Bool) (r : Result (Unit {0}) Refusal) → fresh ≡ false → k ≢ 0 → w ≢ 0 → n ≡ cond (is_ok r) (kept m (w - 1)) m → IfOk r (λ _. n ≡ cond fresh m (held k w m))
-kept_cases k w m n fresh (Err x) f hk hw e = tt
-kept_cases zero w m n fresh (Ok x) f hk hw e = absurd (hk refl)
-kept_cases (suc k) zero m n fresh (Ok x) f hk hw e = absurd (hw refl)
-kept_cases (suc k) (suc b) m n fresh (Ok x) f hk hw e =
-    let y : suc b - 1 ≡ b = omega arith in
-    rw f (e ∙ ap (kept m) y ∙ held_kept k b m)
 
 pub hold_one : (k w c : ℕ) → hold k w c ≤ 1
 hold_one zero w c = omega arith
@@ -101,27 +79,8 @@ module _ (k b : ℕ) (new : ℕ → ℕ) (fresh : ℕ → Bool) where
       let u : (taken m b).holders c ≡ m.holders c = grind (arith, nat_tests) in
       (omega (arith, u, x.0), omega (arith, u, x.1))
 
-  pub fill_all : (m n : Blocks) → b < m.size → m.holders b ≡ 0 → Filling (taken m b) n k b new fresh 16 → Filled m n k b new fresh
-  fill_all m n l z f = record {
-    was = z;
-    inside = l;
-    size = f.size;
-    holders = λ c. elim (ℕ_discrete c b) [
-      | yes e ↦ let x = ap m.holders e in let v = ap (hit (suc b)) e ∙ hit_self b in let h = f.holders c in grind (arith, nat_tests)
-      | no d ↦ let v = hit_other b c d in let h = f.holders c in grind (arith, nat_tests)
-    ];
-    filled = f.filled;
-    others = λ c j d. f.others c j d ∙ grind (arith, nat_tests);
-  }
-
   -- a block was picked, and nothing is put yet
   pub fill_begin : (m u : Blocks) → Picked m b u → Room k new fresh m 16 → Room k new fresh u 16 × Filling u u k b new fresh 0
   fill_begin m u q r =
       let o : (taken m b).holders b ≡ 1 = grind (arith, nat_tests) in
       subst (λ (v : Blocks). Room k new fresh v 16 × Filling v v k b new fresh 0) (sym q.is) (room_taken m q.was r, fill_none (taken m b) (omega (arith, o)))
-
-  pub fill_done : (m n u : Blocks) (i : ℕ) → Picked m b u → 16 ≤ i → i ≤ 16 → Filling u n k b new fresh i → Filled m n k (b + 1 - 1) new fresh
-  fill_done m n u i q h₁ h₂ f =
-      let x : i ≡ 16 = omega arith in
-      let y : b ≡ b + 1 - 1 = omega arith in
-      subst (λ (v : ℕ). Filled m n k v new fresh) y (fill_all m n q.below q.was (subst (λ (v : Blocks). Filling v n k b new fresh 16) q.is (subst (Filling u n k b new fresh) x f)))

@@ -1,10 +1,7 @@
 -- A look-up goes one order down.
-use Rattle.std.proofs.Common.{◌≡◌, ℕ, suc, ◌-◌, ◌/◌, ◌%◌, ◌^◌, ◌<◌, sym, refl, ap, arith}
+use Rattle.std.proofs.Common.{◌≡◌, ℕ, suc, ◌-◌, ◌/◌, ◌%◌, ◌^◌, ◌<◌, sym, ap, arith}
 use Rattle.block.specs.Blocks.{Blocks}
 use Rattle.forest.specs.Trees.{child, lookup}
-
-pub lookup_more : (m : Blocks) (k p i : ℕ) → lookup m (suc k) p i ≡ lookup m k (child m p ((i / 16 ^ k) % 16)) i
-lookup_more m k p i = refl
 
 pub order_down : (o : ℕ) → 0 < o → suc (o - 1) ≡ o
 order_down o h = omega arith

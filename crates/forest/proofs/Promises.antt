@@ -1,4 +1,4 @@
-use Rattle.std.proofs.Common.{◌≡◌, ℕ, ◌<◌, ◌≤◌, Bool, true, false, sym, refl, subst, arith}
+use Rattle.std.proofs.Common.{◌≡◌, ℕ, ◌<◌, ◌≤◌, Bool, false, sym, refl, subst, arith}
 use Rattle.block.specs.Blocks.{Blocks, free_count}
 use Rattle.block.specs.declared.refusals.Refusal.{Refusal}
 use Rattle.block.specs.declared.refusals.Refusal.TheVariants.{NoneFree, NotOut, TooMany, NoWord}
@@ -23,9 +23,6 @@ rebuilt new m n k p q t d c = record {
   live = d.live;
   shape = c.shape;
 }
-
-pub rebuilt_fresh : (new : ℕ → ℕ → ℕ) (m n : Blocks) (k p q : ℕ) (t : Bool) → t ≡ true → Done new m n k p 0 q t → Counted new m n k p 0 q t → Rebuilt new m n k p q true
-rebuilt_fresh new m n k p q t e d c = subst (Rebuilt new m n k p q) e (rebuilt new m n k p q t d c)
 
 pub rebuilt_same : (new : ℕ → ℕ → ℕ) (m n : Blocks) (k p q : ℕ) (t : Bool) → t ≡ false → Done new m n k p 0 q t → Counted new m n k p 0 q t → Rebuilt new m n k p p false
 rebuilt_same new m n k p q t e d c = subst (λ (x : ℕ). Rebuilt new m n k p x false) (d.same e).1 (subst (Rebuilt new m n k p q) e (rebuilt new m n k p q t d c))

@@ -1,5 +1,5 @@
 -- A tree is built anew, child by child.
-use Rattle.std.proofs.Common.{◌≡◌, ℕ, zero, suc, ◌+◌, ◌-◌, ◌*◌, ◌<◌, ◌≤◌, Bool, true, false, cond, ◌||◌, eqb, ◌≢◌, [], ◌∷◌, get_or, replicate, sym, refl, ap, ◌∙◌, subst, arith, below_more, eq-eqb, ne_eqb, true≢false}
+use Rattle.std.proofs.Common.{◌≡◌, ℕ, zero, suc, ◌+◌, ◌-◌, ◌*◌, ◌<◌, ◌≤◌, Bool, true, false, cond, ◌||◌, eqb, ◌≢◌, [], ◌∷◌, sym, refl, ap, ◌∙◌, subst, arith, below_more, eq-eqb, ne_eqb, true≢false}
 use Rattle.std.proofs.Math.Decide.{ℕ_discrete, dec_lt}
 use Rattle.std.proofs.lemmas.Bool.{cond-true, cond-false}
 use Rattle.block.specs.Blocks.{Blocks, Whole, sum_to}
@@ -273,11 +273,6 @@ module _ (new : ℕ → ℕ → ℕ) (m n : Blocks) (k p a : ℕ) (words : ℕ �
         ]) in
         (y.0, e, λ c h. y.2 c (omega (arith, f.grown.held c)) ∙ b.3 c h);
   }
-
-pub none_marked : (n j : ℕ) → get_or (replicate n false) j false ≡ false
-none_marked zero j = refl
-none_marked (suc n) zero = refl
-none_marked (suc n) (suc j) = none_marked n j
 
 undone_none : (n : Blocks) (k a : ℕ) → Undone n n k 0 a
 undone_none n k a = record { size = refl; same = λ b i h l. refl; balance = λ deep t label outside w q. (label, w, λ c h. refl) }
