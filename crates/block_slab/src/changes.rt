@@ -31,10 +31,7 @@ impl Slab<'_> {
         ensures cells { self.new.cells.now ≡ (if is_ok result then slice_set self.old.cells.now b (slice_index self.old.cells.now b + 1) else self.old.cells.now) }
     {
         let held = self.view().holders(b)?;
-        if held == u16::MAX {
-            return Err(Refusal::TooMany);
-        }
-        self.cells[b as usize] = held + 1;
+        self.cells[b as usize] = held.checked_add(1).ok_or(Refusal::TooMany)?;
         Ok(())
     }
 
