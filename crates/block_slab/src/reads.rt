@@ -1,6 +1,6 @@
 // Questions about blocks in memory that is only read.
-ghost use Rattle.std.specs.Prelude.{◌≡◌, ◌*◌, ◌<◌, if◌then◌else◌, nat_lt, not, slice_index, T};
-ghost use Rattle.block.specs.Blocks.{free_count, is_free};
+ghost use Rattle.std.specs.Prelude.{◌≡◌, ◌*◌, if◌then◌else◌, nat_lt, slice_index};
+ghost use Rattle.block.specs.Blocks.{free_count};
 ghost use Rattle.block.specs.Calls.{get_answer, holders_answer};
 ghost use Rattle.layout.specs.Layout.{place_answer};
 ghost use Rattle.block_slab.specs.Held.{shown};
@@ -16,22 +16,11 @@ impl SlabView<'_> {
         (self.words.len() / 16).min(self.cells.len()).min(16384)
     }
 
-    // Whether block b is out.
-    fn is_out(&self, b: u32) -> bool
-        ensures value { result ≡ not (is_free (shown self.now) b) }
-        ensures below { T result → b < (shown self.now).size }
-    {
-        let k = b as usize;
-        k < self.size() && self.cells[k] > 0
-    }
-
     // Where word i of block b lies among the words.
     pub(crate) fn word_at(&self, b: u32, i: u32) -> Result<usize, Refusal>
         ensures { result ≡ place_answer (shown self.now) b i }
     {
-        if !self.is_out(b) {
-            return Err(Refusal::NotOut);
-        }
+        self.holders(b)?;
         if i > 15 {
             return Err(Refusal::NoWord);
         }
@@ -50,10 +39,10 @@ impl SlabView<'_> {
     pub fn holders(&self, b: u32) -> Result<u16, Refusal>
         ensures { result ≡ holders_answer (shown self.now) b }
     {
-        if !self.is_out(b) {
-            return Err(Refusal::NotOut);
+        match self.cells[..self.size()].get(b as usize) {
+            Some(held) if *held > 0 => Ok(*held),
+            _ => Err(Refusal::NotOut),
         }
-        Ok(self.cells[b as usize])
     }
 
     // How many blocks are free.

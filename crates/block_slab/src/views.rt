@@ -1,5 +1,5 @@
 // The memory of blocks, lent to be read.
-#[derive(Clone, Copy)]
+#[derive(Clone, Copy, Debug, PartialEq, Eq)]
 pub struct SlabView<'a> {
     // words 16b to 16b + 15 are block b's
     pub words: &'a [u32],

@@ -1,5 +1,5 @@
 -- A store's chain, by what its slab answered.
-use Rattle.std.proofs.Common.{◌≡◌, ℕ, suc, ◌+◌, ◌-◌, ◌*◌, ◌<◌, true, cond, ltb, leb, List, ◌∷◌, length, get_or, set, is_ok, Ok, Err, Result, sym, refl, ap, ◌∙◌, subst, arith}
+use Rattle.std.proofs.Common.{◌≡◌, ℕ, suc, ◌+◌, ◌*◌, ◌<◌, true, cond, ltb, leb, List, ◌∷◌, length, get_or, set, is_ok, Ok, Err, Result, sym, refl, ap, ◌∙◌, subst, arith}
 use Rattle.std.proofs.lemmas.List.{get_or-set_same}
 use Rattle.std.proofs.lemmas.Bool.{lt-ltb, cond-true}
 use Rattle.std.proofs.lemmas.Bool.Decides.{nat_tests}
@@ -16,7 +16,7 @@ use Rattle.layout.proofs.Wholes.{laid_whole}
 use Rattle.links.specs.Chain.{chain, Unheld, Threads}
 use Rattle.chain_store.specs.Order.{held, order}
 use Rattle.chain_store.specs.declared.store.ChainStore.{ChainStore}
-use Rattle.links.proofs.Links.{length_chain, chain_more, chain_first, chain_set, chain_claimed}
+use Rattle.links.proofs.Links.{length_chain, chain_more, chain_set, chain_claimed}
 use Rattle.links.proofs.Threading.{not_listed, listed_kept, listed_written, listed_freed, listed_taken}
 
 -- as many are free as are counted
@@ -91,24 +91,23 @@ freed_store s b u v last rel same_words link link-words =
 
 -- ---- the first number taken
 
--- the slab v of a store, once the first number was put out, with `next` for the new first
-pub record Popped (s : ChainStore) (next : ℕ) (v : Slab) : Type 0 where
+-- the slab v of a store, once the first number was put out, with `next` for the new first of n
+pub record Popped (s : ChainStore) (next n : ℕ) (v : Slab) : Type 0 where
   pub below : s.top < (held s).size
   pub was : (held s).holders s.top ≡ 0
   pub after : slabs.held v ≡ taken (held s) s.top
-  pub popped : order s ≡ s.top ∷ chain v.words.now next (s.free - 1)
-  pub threads : Threads (chain v.words.now next (s.free - 1)) (slabs.held v)
+  pub popped : order s ≡ s.top ∷ chain v.words.now next n
+  pub threads : Threads (chain v.words.now next n) (slabs.held v)
 
-pub popped_store : (s : ChainStore) (next : ℕ) (v : Slab) → 0 < s.free → next ≡ cond (ltb s.top (held s).size) (get_or s.slab.words.now (16 * s.top) 0) 0
+pub popped_store : (s : ChainStore) (next n : ℕ) (v : Slab) → s.free ≡ n + 1 → next ≡ cond (ltb s.top (held s).size) (get_or s.slab.words.now (16 * s.top) 0) 0
     → slabs.held v ≡ cond (ltb s.top (held s).size) (taken (held s) s.top) (held s)
-    → Claimed s.slab.words.now s.slab.cells.now s.top v.words.now v.cells.now → Popped s next v
-popped_store s next v some e after claim =
+    → Claimed s.slab.words.now s.slab.cells.now s.top v.words.now v.cells.now → Popped s next n v
+popped_store s next n v more e after claim =
     let m : Blocks = held s in
     let b = s.top in
     let ws : List ℕ = s.slab.words.now in
-    let n = s.free - 1 in
     let rest : List ℕ = chain ws (get_or ws (16 * b) 0) n in
-    let split : order s ≡ b ∷ rest = chain_first ws b s.free some in
+    let split : order s ≡ b ∷ rest = ap (chain ws b) more ∙ chain_more ws b n in
     let t : Threads (b ∷ rest) m = subst (λ (os : List ℕ). Threads os m) split s.threads in
     let below : b < m.size = t.inside 0 (omega arith) in
     let yes_below : ltb b m.size ≡ true = lt-ltb b m.size below in

@@ -46,12 +46,9 @@ impl<'a> BlockStore for ChainStore<'a> {
         ensures stays { stands_on self.new ≡ stands_on self.old }
         ensures order { MatchResult result (λ b. order self.old ≡ b ∷ order self.new) (λ _. order self.new ≡ order self.old) }
     {
-        if self.free == 0 {
-            return Err(Refusal::NoneFree);
-        }
+        self.free = self.free.checked_sub(1).ok_or(Refusal::NoneFree)?;
         let b = self.top;
         self.top = self.slab.view().linked(b);
-        self.free -= 1;
         self.slab.claim(b);
         Ok(b)
     }
