@@ -28,16 +28,16 @@ impl BitMap {
         ensures others { (k : ℕ) → (k ≢ b) → mark self.new.words k ≡ mark self.old.words k }
     {
         let at = b as usize / 32;
-        if at < 512 {
+        if at < self.words.len() {
             self.words[at] ^= 1 << (b % 32);
         }
     }
 
-    // The first word that has a 0, from the given word on. By the words' numbers: an iterator over the words that skips some makes a take slower by half.
+    // The first word that has a 0, from the given word on. By the words' numbers: an iterator over the words that skips some makes a take slower by two thirds.
     fn first_with_zero(&self, from: usize) -> Option<usize>
         ensures { MatchOption result ((w : ℕ) → from ≤ w → w < 512 → slice_index self.now.words w ≡ 4294967295) (λ w. (w < 512) × (slice_index self.now.words w ≢ 4294967295) × ((v : ℕ) → from ≤ v → v < w → slice_index self.now.words v ≡ 4294967295)) }
     {
-        (from..512).find(|w| self.words[*w] != u32::MAX)
+        (from..self.words.len()).find(|w| self.words[*w] != u32::MAX)
     }
 
     // The lowest number whose bit is 0, from the given word of the map on.
@@ -45,6 +45,7 @@ impl BitMap {
         ensures { MatchOption result ((k : ℕ) → 32 * from ≤ k → k < 16384 → mark self.now.words k ≡ 1) (λ b. (b < 16384) × (mark self.now.words b ≡ 0) × ((k : ℕ) → 32 * from ≤ k → k < b → mark self.now.words k ≡ 1)) }
     {
         let w = self.first_with_zero(from)?;
+        // the inverted word's trailing zeros: the rule by which this store picks
         Some(32 * w as u32 + (!self.words[w]).trailing_zeros())
     }
 

@@ -1,7 +1,8 @@
 -- The binary digits of a word: the lowest 0, one of them turned, how many are 1.
-use Rattle.std.proofs.Common.{◌≡◌, ℕ, zero, suc, ◌+◌, ◌-◌, ◌/◌, ◌^◌, ◌<◌, ◌≢◌, bit_xor, sym, ap, ◌∙◌, ap₂, pow-suc, arith}
+use Rattle.std.proofs.Common.{◌≡◌, ℕ, zero, suc, ◌+◌, ◌-◌, ◌/◌, ◌%◌, ◌^◌, ◌<◌, ◌≢◌, bit_xor, sym, ap, ◌∙◌, ap₂, pow-suc, arith}
 use Rattle.std.specs.Int.{w32, bit_at}
 use Rattle.std.proofs.lemmas.Nat.Bits.{bit_at_lowest, bit_at-suc, bit_at-lt, bit_at_xor, bit_at-pow_same, bit_at-pow_other, bit_at-trailing_ones}
+use lib.Bits.{xor_shr, xor_mod}
 use lib.Count.{ones, ones_step, count_trailing_zeros}
 use Rattle.block.specs.Blocks.{sum_to}
 use Rattle.block.proofs.Sums.{sum_zero, sum_more, sum_same}
@@ -10,6 +11,10 @@ use Rattle.block.proofs.Sums.{sum_zero, sum_more, sum_same}
 pub lowest_zero : (m : ℕ) → m < 4294967296 → 0 < 4294967295 - m
     → (count_trailing_zeros 32 (4294967295 - m) < 32) × (bit_at m (count_trailing_zeros 32 (4294967295 - m)) ≡ 0) × ((k : ℕ) → k < count_trailing_zeros 32 (4294967295 - m) → bit_at m k ≡ 1)
 lowest_zero m h p = bit_at-trailing_ones w32 m (omega arith)
+
+-- a digit of what two words differ in is what their digits differ in
+pub bit_of_xor : (a b k : ℕ) → bit_at (bit_xor a b) k ≡ bit_xor (bit_at a k) (bit_at b k)
+bit_of_xor a b k = ap (λ (x : ℕ). x % 2) (xor_shr a b k) ∙ xor_mod (a / 2 ^ k) (b / 2 ^ k) 1
 
 pub turned_same : (n j : ℕ) → bit_at (bit_xor n (2 ^ j)) j ≡ 1 - bit_at n j
 turned_same n j = omega (arith, bit_at_xor n (2 ^ j) j, bit_at-pow_same j, bit_at-lt n j)
