@@ -18,7 +18,7 @@ use Rattle.rules.specs.Cells.{depth}
 use Rattle.rules.specs.Sheets.{Sheet, draw, blank_sheet}
 use Rattle.rules.specs.Stretches.{Stretch, same_stretch, touched, Proper}
 use Rattle.rules.proofs.Tests.{or_left, or_right, or_either, is_true, is_false}
-use Rattle.rules.proofs.Members.{list_any-flat_map}
+use Rattle.rules.proofs.Members.{list_any_flat_map}
 use Rattle.rules.proofs.Onces.{In, in_either, from_distinct, to_distinct, distinct_once, from_filter}
 use Rattle.rules.proofs.Touched.{stretch_self, stretch_tells, touched_proper}
 use Rattle.history.specs.Histories.{Entry, Snapshot, History, is_live, first_snapshot, find, line_of}
@@ -123,4 +123,4 @@ count_tally n i h roots f r =
     on_lines m =
         let all = flat_map (λ p. marks h.width h.height p.line blank_sheet) h.live in
         same_truth (list_any (same_mark m) (all_marks h)) (list_any (same_mark m) all) (from_distinct same_mark mark_self mark_tells m all) (to_distinct same_mark mark_self mark_tells m all) ∙
-        list_any-flat_map (same_mark m) (λ p. marks h.width h.height p.line blank_sheet) h.live
+        list_any_flat_map (same_mark m) (λ p. marks h.width h.height p.line blank_sheet) h.live

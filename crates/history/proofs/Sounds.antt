@@ -5,7 +5,7 @@ use Rattle.std.specs.List.{AllByRecursion, filter, flat_map, list_any}
 use Rattle.std.proofs.Math.Dec.{eqb_refl, not_T}
 use Rattle.std.proofs.lemmas.List.Folds.{list_any-append}
 use Rattle.std.proofs.lemmas.List.{length-map}
-use Rattle.rules.proofs.Members.{length-filter_le}
+use Rattle.rules.proofs.Members.{length_filter_le}
 use Rattle.rules.specs.Lists.{distinct, Once}
 use Rattle.rules.specs.Sheets.{Edit, blank_sheet}
 use Rattle.rules.specs.DrawLaws.{Layered}
@@ -344,7 +344,7 @@ module _ (n i s : ℕ) (h : History) (sound : SoundHistory n i h) (begun : T (st
       go ih false u = in_right same_mark m (of w t p) (flat_map (of w t) ps) (ih u)
 
   fewer : (ps : List Snapshot) → length (rest ps) ≤ length ps
-  fewer ps = rw (length-map (filter stays ps) (moved_up s up)) (length-filter_le stays ps)
+  fewer ps = rw (length-map (filter stays ps) (moved_up s up)) (length_filter_le stays ps)
 
   pub forget_sound : SoundHistory n (suc i) after
   forget_sound = record {

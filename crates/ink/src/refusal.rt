@@ -20,9 +20,7 @@ impl PenRefusal {
     pub fn number(self) -> u8
         ensures value { result ∷ [] ≡ numbers_of self }
     {
-        match self {
-            PenRefusal::Side(_) | PenRefusal::Rule(_) | PenRefusal::Colour => 18,
-        }
+        18
     }
 }
 

@@ -22,15 +22,11 @@ A request that the rules refuse is answered 'refused NUMBER: REASON'.
 
 // The arguments after the program's name, as one line; none where there are none.
 fn request_of_arguments(rt: &HostRuntime) -> io::Result<Option<String>> {
-    let mut words = env::args(rt)?.skip(1);
-    let Some(mut request) = words.next() else {
+    let words: Vec<String> = env::args(rt)?.skip(1).collect(rt.alloc())?;
+    if words.is_empty() {
         return Ok(None);
-    };
-    for word in words {
-        request.push(' ')?;
-        request.push_str(word.as_str())?;
     }
-    Ok(Some(request))
+    Ok(Some(words.join(rt.alloc(), " ")?))
 }
 
 // Prints what a request comes to, on a line of its own.
@@ -44,10 +40,10 @@ fn answer(rt: &HostRuntime, request: &str) -> io::Result<()> {
 fn main(rt: HostRuntime) -> io::Result<()> {
     match request_of_arguments(&rt)? {
         Some(request) if request.as_str() == "--help" => print!(rt; "{HELP}"),
-        Some(request) => answer(&rt, request.as_str()),
+        Some(request) => answer(&rt, &request),
         None => {
             for line in BufReader::new(rt.alloc(), rt.stdin())?.lines(rt.alloc()) {
-                answer(&rt, line?.as_str())?;
+                answer(&rt, &line?)?;
             }
             Ok(())
         }

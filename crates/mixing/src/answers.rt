@@ -38,5 +38,5 @@ fn answer(words: &[Word]) -> Result<Dot, Fault> {
 // The answer to a line.
 pub fn answer_line(heap: Global, line: &str) -> Result<Result<Dot, Fault>, AllocError> {
     let words = words_of(heap, line)?;
-    Ok(answer(words.as_slice()))
+    Ok(answer(&words))
 }

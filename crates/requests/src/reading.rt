@@ -48,7 +48,8 @@ impl fmt::Display for Unread {
 
 impl Error for Unread {}
 
-// The words that are still to be read, and how many were read.
+// The words that are still to be read, and how many were asked for. It counts by itself: the place
+// past the last word is told too, and `enumerate` has none for it.
 #[derive(Drop)]
 struct Reader<'a> {
     words: Iter<'a, Word>,
@@ -56,7 +57,7 @@ struct Reader<'a> {
 }
 
 impl Reader<'_> {
-    fn next(&mut self) -> Option<Word> {
+    fn word(&mut self) -> Option<Word> {
         self.count = self.count.saturating_add(1);
         self.words.next().copied()
     }
@@ -70,21 +71,22 @@ impl Reader<'_> {
     }
 
     fn name(&mut self, name: Name) -> Result<(), Unread> {
-        match self.next() {
-            Some(Word::Name(found)) if found == name => Ok(()),
-            _ => Err(self.unread(Wanted::Name(name))),
+        if self.word() == Some(Word::Name(name)) {
+            Ok(())
+        } else {
+            Err(self.unread(Wanted::Name(name)))
         }
     }
 
     fn number(&mut self) -> Result<u8, Unread> {
-        match self.next() {
+        match self.word() {
             Some(Word::Number(number)) => Ok(number),
             _ => Err(self.unread(Wanted::Number)),
         }
     }
 
     fn end(&mut self) -> Result<(), Unread> {
-        match self.next() {
+        match self.word() {
             None => Ok(()),
             Some(_) => Err(self.unread(Wanted::End)),
         }
@@ -115,7 +117,7 @@ impl Reader<'_> {
 
     // over INK on DOT, erase INK on DOT, fade INK at OPACITY
     fn way(&mut self) -> Result<Request, Unread> {
-        match self.next() {
+        match self.word() {
             Some(Word::Name(Name::Over)) => self.lay(Rule::Over),
             Some(Word::Name(Name::Erase)) => self.lay(Rule::Erase),
             Some(Word::Name(Name::Fade)) => self.fade(),

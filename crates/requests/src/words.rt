@@ -69,17 +69,19 @@ impl FromStr for Name {
     }
 }
 
-fn word_of(text: &str) -> Word {
-    if let Ok(name) = text.parse::<Name>() {
-        Word::Name(name)
-    } else if let Ok(number) = text.parse::<u8>() {
-        Word::Number(number)
-    } else {
-        Word::Other
+impl From<&str> for Word {
+    fn from(text: &str) -> Word {
+        if let Ok(name) = text.parse::<Name>() {
+            Word::Name(name)
+        } else if let Ok(number) = text.parse::<u8>() {
+            Word::Number(number)
+        } else {
+            Word::Other
+        }
     }
 }
 
 // The words of a line, in order.
 pub fn words_of(heap: Global, line: &str) -> Result<Vec<Word>, AllocError> {
-    line.split_whitespace().map(word_of).collect(heap)
+    line.split_whitespace().map(Word::from).collect(heap)
 }

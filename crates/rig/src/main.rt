@@ -16,16 +16,16 @@ use ring_store::RingStore;
 use story::STORY;
 
 // One line for a call: what all three answered, and which number each picked.
-fn report(rt: &HostRuntime, call: Call, a: Answer, b: Answer, c: Answer) -> anyhow::Result<()> {
+fn report(rt: &HostRuntime, call: Call, answers: [Answer; 3]) -> anyhow::Result<()> {
     let asked = call.to_string(rt.alloc())?;
-    let told = match a {
+    let told = match answers[0] {
         Ok(reply) => reply.to_string(rt.alloc())?,
         Err(stop) => stop.to_string(rt.alloc())?,
     };
-    if a != b || a != c {
+    if answers.iter().any(|answer| *answer != answers[0]) {
         return Err(anyhow!("the stores do not answer alike"));
     }
-    if let (Ok(Reply::Picked(x)), Ok(Reply::Picked(y)), Ok(Reply::Picked(z))) = (a, b, c) {
+    if let [Ok(Reply::Picked(x)), Ok(Reply::Picked(y)), Ok(Reply::Picked(z))] = answers {
         println!(rt; "{asked:<28}{told:<48}{x:>5}{y:>7}{z:>6}")?;
     } else {
         println!(rt; "{asked:<28}{told}")?;
@@ -54,7 +54,7 @@ fn run(rt: &HostRuntime) -> anyhow::Result<()> {
         "call                        answer                                            map  chain  ring"
     )?;
     for (((call, a), b), c) in STORY.iter().zip(&map).zip(&chain).zip(&ring) {
-        report(rt, *call, *a, *b, *c)?;
+        report(rt, *call, [*a, *b, *c])?;
     }
     println!(rt; "All answers agree; only the numbers that take picked differ.")?;
     Ok(())

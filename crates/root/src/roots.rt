@@ -15,7 +15,7 @@ use node::Child;
 use tree::{Plan, Tree};
 
 // A snapshot, by the word that leads to its root block: 1 plus the block's number, or 0 for none.
-#[derive(Clone, Copy)]
+#[derive(Clone, Copy, Debug, PartialEq, Eq)]
 pub struct Root {
     pub word: u32,
 }

@@ -11,7 +11,7 @@ use Rattle.rules.specs.Lines.{on_sheet}
 use Rattle.rules.specs.Sheets.{Sheet, Edit, stroke, fill, frisket, layer, draw, word_of, tree_of}
 use Rattle.rules.specs.DrawLaws.{OffSheet, Layered, ChangedMeans}
 use Rattle.rules.proofs.Tests.{and_left, and_right}
-use Rattle.rules.proofs.Members.{in_row, list_any-flat_map, list_any-map}
+use Rattle.rules.proofs.Members.{in_row, list_any_flat_map, list_any_map}
 use Rattle.rules.proofs.Onces.{from_filter, to_filter}
 use Rattle.rules.proofs.Places.{dots_placed}
 use Rattle.rules.proofs.Draws.{draw_inside}
@@ -43,8 +43,8 @@ module _ (w h : ℕ) (s t : Sheet) (o : OffSheet w h s) (p : OffSheet w h t) (i 
       go true e =
           let f : ℕ → Bool = λ b. list_any (λ a. eqb i (dot_index a b)) (below w) in
           let q : list_any f (below h) ≡ list_any (eqb i) (flat_map (λ y. map (λ x. dot_index x y) (below w)) (below h))
-          = ap (λ (g : ℕ → Bool). list_any g (below h)) (fun_ext (λ b. sym (list_any-map (eqb i) (λ a. dot_index a b) (below w))))
-          ∙ sym (list_any-flat_map (eqb i) (λ y. map (λ x. dot_index x y) (below w)) (below h))
+          = ap (λ (g : ℕ → Bool). list_any g (below h)) (fun_ext (λ b. sym (list_any_map (eqb i) (λ a. dot_index a b) (below w))))
+          ∙ sym (list_any_flat_map (eqb i) (λ y. map (λ x. dot_index x y) (below w)) (below h))
           in
           let u : T (ltb (dot_column i) w && ltb (dot_row i) h) = rw e tt in
           let c : dot_column i < w = ltb→lt (dot_column i) w (and_left (ltb (dot_column i) w) (ltb (dot_row i) h) u) in
@@ -66,7 +66,7 @@ module _ (w h : ℕ) (s t : Sheet) (o : OffSheet w h s) (p : OffSheet w h t) (i 
       ⊎_elim
       (λ a. ⊎_elim
       (λ b. let c = a.1 in let d = b.1 in
-      inl (rw list_any-flat_map (in_row (λ y. list_any (eqb i) (range_with_len (8 * y) ((w + 31) / 32))) 0 h (i / 8) zero-le (rw zero-add a.1)
+      inl (rw list_any_flat_map (in_row (λ y. list_any (eqb i) (range_with_len (8 * y) ((w + 31) / 32))) 0 h (i / 8) zero-le (rw zero-add a.1)
       (in_row (eqb i) (8 * (i / 8)) ((w + 31) / 32) i (omega arith) (omega arith) (eqb_refl i)))))
       (λ b. inr (off_strip (λ x. not_T (on_sheet w h (32 * (i % 8) + x, i / 8)) (λ u. let l = ltb→lt (32 * (i % 8) + x) w (and_left (ltb (32 * (i % 8) + x) w) (ltb (i / 8) h) u) in let c = b.1 in omega arith))))
       (leb_tells (suc (i % 8)) ((w + 31) / 32)))

@@ -9,7 +9,7 @@ use Rattle.rules.specs.Lines.{Point, on_sheet}
 use Rattle.rules.specs.Reach.{Reach, here, right, left, up, down, listed, beside, points_on, next_round, rounds, reached}
 use Rattle.rules.specs.DrawLaws.{RoundsReach}
 use Rattle.rules.proofs.Tests.{and_left, and_right, or_left, or_right, or_either}
-use Rattle.rules.proofs.Members.{on_points, length_points, kept_listed, listed_kept, length-filter_le, kept_more}
+use Rattle.rules.proofs.Members.{on_points, length_points, kept_listed, listed_kept, length_filter_le, kept_more}
 
 -- (a, b) and (x, y) are one step apart
 abbrev Next : ℕ → ℕ → ℕ → ℕ → Type 0
@@ -112,7 +112,7 @@ module _ (w h : ℕ) (through : ℕ → ℕ → Bool) (p : Point) (inside : (x y
   stable =
       ⊎_elim
       (λ e. e)
-      (λ l. absurd (let m = length-filter_le (λ q. listed (rounds w h through p (w * h)) q.0 q.1 || (through q.0 q.1 && beside (rounds w h through p (w * h)) q.0 q.1)) (points_on w h) in
+      (λ l. absurd (let m = length_filter_le (λ q. listed (rounds w h through p (w * h)) q.0 q.1 || (through q.0 q.1 && beside (rounds w h through p (w * h)) q.0 q.1)) (points_on w h) in
       omega (arith, length_points w h)))
       (long (w * h))
 

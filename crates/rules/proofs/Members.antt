@@ -15,13 +15,13 @@ use Rattle.rules.specs.Reach.{listed, points_on}
 use Rattle.rules.proofs.Tests.{and_left, and_right, or_left, or_right, or_either}
 
 module _ {A : Type 0} where
-  pub list_any-flat_map : {B : Type 0} (f : A → Bool) (g : B → List A) (xs : List B) → list_any f (flat_map g xs) ≡ list_any (λ b. list_any f (g b)) xs
-  list_any-flat_map f g [] = refl
-  list_any-flat_map f g (x ∷ xs) = list_any-append f (g x) (flat_map g xs) ∙ ap (λ r. list_any f (g x) || r) (list_any-flat_map f g xs)
+  pub list_any_flat_map : {B : Type 0} (f : A → Bool) (g : B → List A) (xs : List B) → list_any f (flat_map g xs) ≡ list_any (λ b. list_any f (g b)) xs
+  list_any_flat_map f g [] = refl
+  list_any_flat_map f g (x ∷ xs) = list_any-append f (g x) (flat_map g xs) ∙ ap (λ r. list_any f (g x) || r) (list_any_flat_map f g xs)
 
-  pub list_any-map : {B : Type 0} (f : A → Bool) (g : B → A) (xs : List B) → list_any f (map g xs) ≡ list_any (λ b. f (g b)) xs
-  list_any-map f g [] = refl
-  list_any-map f g (x ∷ xs) = ap (λ r. f (g x) || r) (list_any-map f g xs)
+  pub list_any_map : {B : Type 0} (f : A → Bool) (g : B → A) (xs : List B) → list_any f (map g xs) ≡ list_any (λ b. f (g b)) xs
+  list_any_map f g [] = refl
+  list_any_map f g (x ∷ xs) = ap (λ r. f (g x) || r) (list_any_map f g xs)
 
 same_point : (p : Point) (x y : ℕ) → T (eqb p.0 x && eqb p.1 y) → p ≡ (x, y)
 same_point p x y t i = (eqb→eq p.0 x (and_left (eqb p.0 x) (eqb p.1 y) t) i, eqb→eq p.1 y (and_right (eqb p.0 x) (eqb p.1 y) t) i)
@@ -39,21 +39,21 @@ pub on_points : (w h x y : ℕ) → x < w → y < h → T (listed (points_on w h
 on_points w h x y p q =
     let f : ℕ → Bool = λ b. list_any (λ a. eqb a x && eqb b y) (below w) in
     let e : list_any f (below h) ≡ listed (points_on w h) x y
-    = ap (λ (g : ℕ → Bool). list_any g (below h)) (fun_ext (λ b. sym (list_any-map (λ (p : Point). eqb p.0 x && eqb p.1 y) (λ a. (a, b)) (below w))))
-    ∙ sym (list_any-flat_map (λ (p : Point). eqb p.0 x && eqb p.1 y) (λ b. map (λ a. (a, b)) (below w)) (below h))
+    = ap (λ (g : ℕ → Bool). list_any g (below h)) (fun_ext (λ b. sym (list_any_map (λ (p : Point). eqb p.0 x && eqb p.1 y) (λ a. (a, b)) (below w))))
+    ∙ sym (list_any_flat_map (λ (p : Point). eqb p.0 x && eqb p.1 y) (λ b. map (λ a. (a, b)) (below w)) (below h))
     in
     subst T e (in_row f 0 h y (omega arith) (omega arith)
     (in_row (λ a. eqb a x && eqb y y) 0 w x (omega arith) (omega arith) (yes_and (eqb x x) (eqb y y) (eqb_refl x) (eqb_refl y))))
 
 -- how many they are
-pub length-flat_map_same : {A B : Type 0} (f : A → List B) (n : ℕ) → ((a : A) → length (f a) ≡ n) → (xs : List A) → length (flat_map f xs) ≡ length xs * n
-length-flat_map_same f n e [] = sym (zero-mul n)
-length-flat_map_same f n e (x ∷ xs) =
-    length-append (f x) (flat_map f xs) ∙ ap₂ ◌+◌ (e x) (length-flat_map_same f n e xs) ∙ add_comm n (length xs * n) ∙ sym (suc-mul (length xs) n)
+pub length_flat_map_same : {A B : Type 0} (f : A → List B) (n : ℕ) → ((a : A) → length (f a) ≡ n) → (xs : List A) → length (flat_map f xs) ≡ length xs * n
+length_flat_map_same f n e [] = sym (zero-mul n)
+length_flat_map_same f n e (x ∷ xs) =
+    length-append (f x) (flat_map f xs) ∙ ap₂ ◌+◌ (e x) (length_flat_map_same f n e xs) ∙ add_comm n (length xs * n) ∙ sym (suc-mul (length xs) n)
 
 pub length_points : (w h : ℕ) → length (points_on w h) ≡ w * h
 length_points w h =
-    length-flat_map_same (λ y. map (λ x. (x, y)) (below w)) w (λ y. length-map (below w) (λ x. (x, y)) ∙ length-range_with_len 0 w) (below h)
+    length_flat_map_same (λ y. map (λ x. (x, y)) (below w)) w (λ y. length-map (below w) (λ x. (x, y)) ∙ length-range_with_len 0 w) (below h)
     ∙ ap (λ n. n * w) (length-range_with_len 0 h) ∙ mul_comm h w
 
 -- a point that is on a list
@@ -99,8 +99,8 @@ module _ (f : Point → Bool) where
           (or_either at_p (listed ps x y) t)
 
 -- what passes a test is no longer than the list
-pub length-filter_le : {A : Type 0} (f : A → Bool) (xs : List A) → length (filter f xs) ≤ length xs
-length-filter_le f xs = rw (length-filter f xs) (count_by-le-length f xs)
+pub length_filter_le : {A : Type 0} (f : A → Bool) (xs : List A) → length (filter f xs) ≤ length xs
+length_filter_le f xs = rw (length-filter f xs) (count_by-le-length f xs)
 
 -- a test that lets more through keeps the same, or a longer list
 pub kept_more : (f g : Point → Bool) (ps : List Point) → ((x y : ℕ) → T (listed ps x y) → T (f (x, y)) → T (g (x, y)))

@@ -13,7 +13,7 @@ use Rattle.rules.specs.Stretches.{Stretch, same_stretch, Proper, stretch_at, str
 use Rattle.rules.specs.DrawLaws.{Layered, TouchedMeans}
 use Rattle.rules.proofs.Tests.{and_left, and_right, or_left, or_right, or_either}
 use Rattle.rules.proofs.Onces.{In, from_distinct, to_distinct, from_filter}
-use Rattle.rules.proofs.Members.{list_any-flat_map, list_any-map, some_of, of_some, in_bounds, some_in_row}
+use Rattle.rules.proofs.Members.{list_any_flat_map, list_any_map, some_of, of_some, in_bounds, some_in_row}
 use Rattle.rules.proofs.Places.{dots_placed}
 use Rattle.rules.proofs.Changes.{changed_means}
 
@@ -67,13 +67,13 @@ cells_below w h tree i a b l t = go (ltb tree 8) (eqb tree 8) refl refl
   where
     dots : T (list_any (eqb i) (flat_map (λ y. map (λ x. dot_index x y) (below w)) (below h))) → i < 65536
     dots u =
-        let r = some_in_row (λ y. list_any (eqb i) (map (λ x. dot_index x y) (below w))) h (rw list_any-flat_map at u) in
-        let q = some_in_row (λ x. eqb i (dot_index x r.0)) w (subst T (list_any-map (eqb i) (λ x. dot_index x r.0) (below w)) r.2) in
+        let r = some_in_row (λ y. list_any (eqb i) (map (λ x. dot_index x y) (below w))) h (rw list_any_flat_map at u) in
+        let q = some_in_row (λ x. eqb i (dot_index x r.0)) w (subst T (list_any_map (eqb i) (λ x. dot_index x r.0) (below w)) r.2) in
         subst (λ (k : ℕ). k < 65536) (sym (eqb→eq i (dot_index q.0 r.0) q.2)) (dots_placed.within q.0 r.0)
 
     strips : T (list_any (eqb i) (flat_map (λ y. range_with_len (8 * y) ((w + 31) / 32)) (below h))) → i < 4096
     strips u =
-        let r = some_in_row (λ y. list_any (eqb i) (range_with_len (8 * y) ((w + 31) / 32))) h (rw list_any-flat_map at u) in
+        let r = some_in_row (λ y. list_any (eqb i) (range_with_len (8 * y) ((w + 31) / 32))) h (rw list_any_flat_map at u) in
         let q = in_bounds i (8 * r.0) ((w + 31) / 32) r.2 in
         let c = r.1 in let d = q.1 in let k : (w + 31) / 32 ≤ 8 = omega arith in omega arith
 
@@ -103,7 +103,7 @@ touched_holds w h e s q t =
     let cs = changed w h e s in
     let all = flat_map (stretches_of (tree_of e)) cs in
     let u = from_distinct same_stretch stretch_self stretch_tells q all t in
-    let r = some_of (λ i. list_any (same_stretch q) (stretches_of (tree_of e) i)) cs eqb eqb_refl (rw list_any-flat_map at u) in
+    let r = some_of (λ i. list_any (same_stretch q) (stretches_of (tree_of e) i)) cs eqb eqb_refl (rw list_any_flat_map at u) in
     (r.0, r.1, from_orders (tree_of e) r.0 1 (depth (tree_of e)) q r.2)
 
 changed_below : (w h : ℕ) (e : Edit) (s : Sheet) (i : ℕ) → w ≤ 256 → h ≤ 256 → Layered e → T (list_any (eqb i) (changed w h e s)) → i < 16 ^ depth (tree_of e)
@@ -139,7 +139,7 @@ touched_means w h e s q a b layered off =
           let c = (changed_means w h e s layered off q.tree t.cell p.tree t.within).0 t.differs in
           let high : q.order ≤ depth (tree_of e) = subst (λ (k : ℕ). q.order ≤ depth k) c.0 p.high in
           to_distinct same_stretch stretch_self stretch_tells q all
-          (rw list_any-flat_map (of_some (λ i. list_any (same_stretch q) (stretches_of (tree_of e) i)) t.cell cs eqb eqb→eq c.1
+          (rw list_any_flat_map (of_some (λ i. list_any (same_stretch q) (stretches_of (tree_of e) i)) t.cell cs eqb eqb→eq c.1
           (to_orders (tree_of e) t.cell 1 (depth (tree_of e)) q (record { tree = c.0; quotient = t.held; low = p.low; high = omega arith }))))),
       (λ t.
           let r = touched_holds w h e s q t in

@@ -11,11 +11,11 @@ use Rattle.rules.specs.ViewLaws.{spelt, DecimalsSpell, RowLengths, RowsBytes, Ma
 use Rattle.rules.proofs.Bits.{binary_below, binary_back}
 use Rattle.rules.proofs.Inks.{paper_byte}
 use Rattle.rules.proofs.Draws.{flat_sound}
-use Rattle.rules.proofs.Members.{length-flat_map_same}
+use Rattle.rules.proofs.Members.{length_flat_map_same}
 
 pub row_lengths : RowLengths
 row_lengths = record {
-  colours = λ w s y. length-flat_map_same (λ x. paper_bytes (flat_dot s x y)) 3 (λ x. refl) (below w) ∙ ap (λ n. n * 3) (length-range_with_len 0 w) ∙ mul_comm w 3;
+  colours = λ w s y. length_flat_map_same (λ x. paper_bytes (flat_dot s x y)) 3 (λ x. refl) (below w) ∙ ap (λ n. n * 3) (length-range_with_len 0 w) ∙ mul_comm w 3;
   masks = λ w s y. length-map (below ((w + 7) / 8)) (mask_byte s y) ∙ length-range_with_len 0 ((w + 7) / 8);
 }
 

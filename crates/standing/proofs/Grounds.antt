@@ -3,6 +3,9 @@ use Rattle.std.proofs.Common.{◌≡◌, ℕ, Bool, true, false, cond, ◌||◌,
 use Rattle.rules.specs.Refusals.{Refusal, Ground, first, numbers}
 use Rattle.standing.specs.States.{verdict}
 
+pub some_not_none : {A : Type 0} {x : A} → Some x ≡ None → ⊥
+some_not_none e = cc
+
 -- the numbers of a refusal, or none
 abbrev told : Option Refusal → Option (List ℕ)
 told o = elim o [ None ↦ None | Some r ↦ Some (numbers r) ]

@@ -10,8 +10,8 @@ use Rattle.table.specs.declared.records.Snapshot.{Snapshot}
 abbrev pub stands : List (Option Snapshot) → ℕ → ℕ → Bool
 stands ss s q = is_number s (parent_at ss q)
 
-pub last-is_find : (ss : List (Option Snapshot)) (s : ℕ) (qs : List ℕ) → last_under ss s qs ≡ find (stands ss s) (reverse qs)
-last-is_find ss s [] = refl
-last-is_find ss s (q ∷ qs) =
-    ap (λ o. option_or o (find (stands ss s) (q ∷ []))) (last-is_find ss s qs)
+pub last_is_find : (ss : List (Option Snapshot)) (s : ℕ) (qs : List ℕ) → last_under ss s qs ≡ find (stands ss s) (reverse qs)
+last_is_find ss s [] = refl
+last_is_find ss s (q ∷ qs) =
+    ap (λ o. option_or o (find (stands ss s) (q ∷ []))) (last_is_find ss s qs)
     ∙ sym (ap (find (stands ss s)) (reverse-append (q ∷ []) qs) ∙ find-append (stands ss s) (reverse qs) (q ∷ []))

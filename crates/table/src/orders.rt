@@ -5,7 +5,7 @@ ghost use Rattle.table.specs.Tables.{but};
 use std::marker::Model;
 
 // Their numbers, the one made first at the front. It is no `ArrayVec`: that is not `Copy`, and the table is.
-#[derive(Clone, Copy)]
+#[derive(Clone, Copy, Debug, PartialEq, Eq)]
 pub(crate) struct Order {
     places: [u8; 64],
     count: usize,

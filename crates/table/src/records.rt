@@ -5,7 +5,7 @@ ghost use Rattle.table.specs.Tables.{moved_up, under};
 use root::Root;
 
 // A live snapshot.
-#[derive(Clone, Copy)]
+#[derive(Clone, Copy, Debug, PartialEq, Eq)]
 pub struct Snapshot {
     pub root: Root,
     // the snapshot that it stands under; snapshot 0 has none

@@ -6,7 +6,7 @@ use crate::orders::Order;
 use crate::records::Snapshot;
 
 // Snapshots by their numbers, and the numbers of those that are live in the order in which they were made.
-#[derive(Clone, Copy)]
+#[derive(Clone, Copy, Debug, PartialEq, Eq)]
 pub struct Table {
     snapshots: [Option<Snapshot>; 64],
     order: Order,
