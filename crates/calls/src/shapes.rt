@@ -1,6 +1,7 @@
 // Points, rectangles and sizes.
 
-// A column and a row, counted from 0 at the top left; it need not lie on the sheet.
+// A column and a row, counted from 0 at the top left; it need not lie on the sheet. It is a pair, as
+// the points of the rules are.
 pub type Point = (u16, u16);
 
 // A rectangle, by its corners at the top left and the bottom right, both included.

@@ -1,6 +1,6 @@
 // The words that requests are made of.
 ghost use Rattle.std.specs.Prelude.{◌≡◌};
-ghost use Rattle.requests.specs.Spellings.{Spells, spelling};
+ghost use Rattle.requests.specs.Spellings.{Says, Spells, spelling};
 
 use std::alloc::{AllocError, Global};
 use std::fmt;
@@ -70,6 +70,8 @@ impl FromStr for Name {
 }
 
 impl From<&str> for Word {
+    ghost from_gives = { λ text word. Says text.now word };
+
     fn from(text: &str) -> Word {
         if let Ok(name) = text.parse::<Name>() {
             Word::Name(name)

@@ -41,12 +41,14 @@ impl Table {
     }
 
     // Puts a snapshot that is made now into the place of its number, where there is room for one more.
+    // Not by `get_mut`: after that, nothing is known of the array.
     pub fn add(&mut self, number: u8, snapshot: Snapshot)
         ensures snapshots { self.new.snapshots ≡ slice_set self.old.snapshots number (Some snapshot) }
         ensures made { length self.old.order.made < 64 → number < 64 → self.new.order.made ≡ self.old.order.made ++ (number ∷ []) }
     {
-        if number < 64 {
-            self.snapshots[usize::from(number)] = Some(snapshot);
+        let place = usize::from(number);
+        if place < self.snapshots.len() {
+            self.snapshots[place] = Some(snapshot);
             self.order.push(number);
         }
     }
@@ -56,10 +58,11 @@ impl Table {
         ensures snapshots { number < 64 → self.new.snapshots ≡ slice_set (map (option_map (moved_up number (parent_at self.old.snapshots number))) self.old.snapshots) number None }
         ensures made { number < 64 → self.new.order.made ≡ filter (but number) self.old.order.made }
     {
-        if number < 64 {
+        let place = usize::from(number);
+        if place < self.snapshots.len() {
             let parent = self.parent(number);
             self.move_children_up(number, parent);
-            self.snapshots[usize::from(number)] = None;
+            self.snapshots[place] = None;
             self.order.strike(number);
         }
     }
