@@ -16,7 +16,7 @@ fn lay_on<R: InkRule>(rule: &R, ink: Dot, dot: &mut Dot)
 pub fn lay_ink<R: InkRule>(rule: &R, ink: Dot, dots: &mut [Dot])
     ensures after { dots_of dots.new ≡ map (R.InkRule.lays rule.now (dot_of ink)) (dots_of dots.old) }
 {
-    for dot in dots.iter_mut() {
+    for dot in dots {
         lay_on(rule, ink, dot);
     }
 }
