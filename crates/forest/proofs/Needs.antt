@@ -1,7 +1,7 @@
 -- Counting what a plan changes, stretch by stretch.
 use Rattle.std.proofs.Common.{◌≡◌, ℕ, zero, suc, ◌+◌, ◌-◌, ◌*◌, ◌^◌, ◌<◌, ◌≤◌, Bool, true, false, cond, ◌||◌, ◌≢◌, Option, Some, None, MatchOption, is_some, sym, refl, ap, ◌∙◌, subst, suc-mul, arith}
-use Rattle.std.specs.Bool.{then_some}
 use Rattle.std.specs.Option.{unwrap_or}
+use Rattle.std.proofs.Math.Bool.{or-false, or-true}
 use Rattle.std.proofs.Math.Nat.{pow-le-pow_right, one-le-pow}
 use Rattle.std.proofs.lemmas.Bool.{cond-true, cond-false}
 use Rattle.block.specs.Blocks.{Blocks, sum_to}
@@ -31,11 +31,6 @@ needed_none : (new : ℕ → ℕ → ℕ) (m : Blocks) (k p a : ℕ) → changes
 needed_none new m zero p a e = refl
 needed_none new m (suc k) p a e = cond-false (changes new m (suc k) p a) (suc (sum_to 16 (λ j. needed new m k (child m p j) (a * 16 + j)))) 0 e
 
--- a count r of a stretch tells whether it changes, and how many blocks it needs
-pub count_reads : (new : ℕ → ℕ → ℕ) (m : Blocks) (k p a : ℕ) (r : Option ℕ) → MatchOption r (changes new m k p a ≡ false) (λ b. (changes new m k p a ≡ true) × (b ≡ needed new m k p a)) → (is_some r ≡ changes new m k p a) × (unwrap_or r 0 ≡ needed new m k p a)
-count_reads new m k p a None h = (sym h, sym (needed_none new m k p a h))
-count_reads new m k p a (Some b) h = (sym h.0, h.1)
-
 module _ (new : ℕ → ℕ → ℕ) (m : Blocks) (p a : ℕ) where
   -- the count of the first i stretches, and of one more, fits 32 bits
   pub count_fits : (k i : ℕ) → k ≤ 3 → i < 16 → suc (sum_to i (λ j. needed new m k (child m p j) (a * 16 + j))) + needed new m k (child m p i) (a * 16 + i) < 2 ^ 32
@@ -51,6 +46,16 @@ module _ (new : ℕ → ℕ → ℕ) (m : Blocks) (p a : ℕ) where
     ap (λ x. x || t) e ∙ ap (λ x. any_to i (λ j. changes new m k (child m p j) (a * 16 + j)) || x) et ∙ sym (any_more i (λ j. changes new m k (child m p j) (a * 16 + j))),
     omega (arith, f, ec, sum_more i (λ j. needed new m k (child m p j) (a * 16 + j))),
   )
+
+  -- one more of them, which changes
+  pub count_changed : (k i c blocks : ℕ) (t : Bool) → blocks ≡ suc (sum_to i (λ j. needed new m k (child m p j) (a * 16 + j))) → changes new m k (child m p i) (a * 16 + i) ≡ true → c ≡ needed new m k (child m p i) (a * 16 + i) → t ≡ any_to i (λ j. changes new m k (child m p j) (a * 16 + j)) → (true ≡ any_to (i + 1) (λ j. changes new m k (child m p j) (a * 16 + j))) × (blocks + c ≡ suc (sum_to (i + 1) (λ j. needed new m k (child m p j) (a * 16 + j))))
+  count_changed k i c blocks t f ec et x = let r = count_more k i c t true blocks x f (sym ec) et in (sym (or-true t) ∙ r.0, r.1)
+
+  -- one more of them, in which nothing changes
+  pub count_same : (k i blocks : ℕ) (t : Bool) → t ≡ any_to i (λ j. changes new m k (child m p j) (a * 16 + j)) → blocks ≡ suc (sum_to i (λ j. needed new m k (child m p j) (a * 16 + j))) → changes new m k (child m p i) (a * 16 + i) ≡ false → (t ≡ any_to (i + 1) (λ j. changes new m k (child m p j) (a * 16 + j))) × (blocks ≡ suc (sum_to (i + 1) (λ j. needed new m k (child m p j) (a * 16 + j))))
+  count_same k i blocks t x f ec =
+      let r = count_more k i 0 t false blocks x f (sym ec) (sym (needed_none new m k (child m p i) (a * 16 + i) ec)) in
+      (sym (or-false t) ∙ r.0, omega (arith, r.1))
 
   up : (o : ℕ) → o ≢ 0 → suc (o - 1) ≡ o
   up o h = omega arith
@@ -71,6 +76,6 @@ module _ (new : ℕ → ℕ → ℕ) (m : Blocks) (p a : ℕ) where
       (sym t ∙ x₁, sym (cond-false (changes new m (suc (o - 1)) p a) (suc (sum_to 16 (λ j. needed new m (o - 1) (child m p j) (a * 16 + j)))) 0 (sym x₁ ∙ t))))
 
   -- so the count of the whole
-  pub count_told : (o i blocks : ℕ) (changed : Bool) → o ≢ 0 → i ≡ 16 → changed ≡ any_to i (λ j. changes new m (o - 1) (child m p j) (a * 16 + j)) → blocks ≡ suc (sum_to i (λ j. needed new m (o - 1) (child m p j) (a * 16 + j))) → MatchOption (then_some changed blocks) (changes new m o p a ≡ false) (λ b. (changes new m o p a ≡ true) × (b ≡ needed new m o p a))
-  count_told o i blocks true h e x y = let r = count_all o i blocks true h e x y refl in (sym r.0, r.1)
-  count_told o i blocks false h e x y = sym (count_none o i false h e x refl).0
+  pub count_told : (o i : ℕ) (blocks : Option ℕ) → o ≢ 0 → i ≡ 16 → is_some blocks ≡ any_to i (λ j. changes new m (o - 1) (child m p j) (a * 16 + j)) → unwrap_or blocks 1 ≡ suc (sum_to i (λ j. needed new m (o - 1) (child m p j) (a * 16 + j))) → MatchOption blocks (changes new m o p a ≡ false) (λ b. (changes new m o p a ≡ true) × (b ≡ needed new m o p a))
+  count_told o i (Some b) h e x y = let r = count_all o i b true h e x y refl in (sym r.0, r.1)
+  count_told o i None h e x y = sym (count_none o i false h e x refl).0

@@ -9,7 +9,7 @@ use crate::releases::let_go;
 use block::BlockStore;
 
 // A stretch that a block leads to, by its word.
-#[derive(Clone, Copy)]
+#[derive(Clone, Copy, Debug, PartialEq, Eq)]
 pub enum Child {
     // one that others hold already: the block is one holder more
     Kept(u32),

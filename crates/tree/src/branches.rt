@@ -8,7 +8,7 @@ use block::BlockStore;
 use std::array;
 
 // A stretch of a tree, with its word in the blocks of a store.
-#[derive(Clone, Copy)]
+#[derive(Clone, Copy, Debug, PartialEq, Eq)]
 pub struct Branch {
     pub stretch: Stretch,
     pub word: u32,

@@ -18,14 +18,13 @@ fn count<S: BlockStore, P: Plan>(store: &S, plan: &P, branch: Branch) -> Option<
         let new = plan.new_word(branch.stretch.at, branch.word);
         return (new != branch.word).then_some(0);
     };
-    let mut changed = false;
-    let mut blocks = 1;
+    let mut blocks = None;
     for part in parts {
-        let of_part = count(store, plan, part);
-        changed |= of_part.is_some();
-        blocks += of_part.unwrap_or(0);
+        if let Some(of_part) = count(store, plan, part) {
+            blocks = Some(blocks.unwrap_or(1) + of_part);
+        }
     }
-    changed.then_some(blocks)
+    blocks
 }
 
 impl Tree {

@@ -18,7 +18,7 @@ pub trait Plan {
 }
 
 // The plan that gives one cell another word.
-#[derive(Clone, Copy)]
+#[derive(Clone, Copy, Debug, PartialEq, Eq)]
 pub struct OneCell {
     pub index: u32,
     pub word: u32,
@@ -32,6 +32,6 @@ impl Plan for OneCell {
     }
 
     fn touches(&self, stretch: Stretch) -> bool {
-        self.index >> (4 * stretch.order as u32) == stretch.at
+        self.index >> (4 * u32::from(stretch.order)) == stretch.at
     }
 }

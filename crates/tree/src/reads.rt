@@ -13,7 +13,7 @@ impl Tree {
     {
         let mut word = self.top;
         for order in (0..self.depth).rev() {
-            word = node::child_of(store, word, (index >> (4 * order as u32)) % 16);
+            word = node::child_of(store, word, (index >> (4 * u32::from(order))) % 16);
         }
         word
     }

@@ -7,7 +7,7 @@ use crate::cells::CellKind;
 //
 // The word of a stretch of order 0 is its cell's own. Of a higher order it is 0 where nothing was ever put,
 // or else 1 plus the number of the block that has the words of the sixteen stretches in it.
-#[derive(Clone, Copy)]
+#[derive(Clone, Copy, Debug, PartialEq, Eq)]
 pub struct Tree {
     pub depth: u8,
     pub top: u32,
@@ -15,7 +15,7 @@ pub struct Tree {
 }
 
 // A stretch of order k: all cells whose indices have the same quotient by 16 ^ k. At order 0 it is one cell.
-#[derive(Clone, Copy)]
+#[derive(Clone, Copy, Debug, PartialEq, Eq)]
 pub struct Stretch {
     pub order: u8,
     // that quotient

@@ -1,4 +1,5 @@
-use Rattle.std.proofs.Common.{◌≡◌, suc, ◌+◌, ◌-◌, ◌*◌}
+use Rattle.std.proofs.Common.{◌≡◌, suc, ◌+◌, ◌-◌, ◌*◌, is_some}
+use Rattle.std.specs.Option.{unwrap_or}
 use Rattle.block.specs.Blocks.{sum_to}
 use Rattle.forest.specs.Trees.{child}
 use Rattle.forest.specs.Plans.{any_to, changes, needed}
@@ -9,4 +10,4 @@ decreases-count g l = l.branch.stretch.order
 
 -- the first parts are counted
 abbrev pub invariant-loop-part : goal.invariant-loop-part
-invariant-loop-part g l = (l.changed ≡ any_to l.part-index (λ j. changes (g.P.Plan.new l.plan) (g.S.BlockStore.blocks l.store) (l.fn.branch.stretch.order - 1) (child (g.S.BlockStore.blocks l.store) l.fn.branch.word j) (l.fn.branch.stretch.at * 16 + j))) × (l.blocks ≡ suc (sum_to l.part-index (λ j. needed (g.P.Plan.new l.plan) (g.S.BlockStore.blocks l.store) (l.fn.branch.stretch.order - 1) (child (g.S.BlockStore.blocks l.store) l.fn.branch.word j) (l.fn.branch.stretch.at * 16 + j))))
+invariant-loop-part g l = (is_some l.blocks ≡ any_to l.part-index (λ j. changes (g.P.Plan.new l.plan) (g.S.BlockStore.blocks l.store) (l.fn.branch.stretch.order - 1) (child (g.S.BlockStore.blocks l.store) l.fn.branch.word j) (l.fn.branch.stretch.at * 16 + j))) × (unwrap_or l.blocks 1 ≡ suc (sum_to l.part-index (λ j. needed (g.P.Plan.new l.plan) (g.S.BlockStore.blocks l.store) (l.fn.branch.stretch.order - 1) (child (g.S.BlockStore.blocks l.store) l.fn.branch.word j) (l.fn.branch.stretch.at * 16 + j))))
