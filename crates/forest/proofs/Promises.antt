@@ -1,3 +1,4 @@
+-- What a rebuild and its refusal promise, as callers read it, and a release with them.
 use Rattle.std.proofs.Common.{◌≡◌, ℕ, ◌<◌, ◌≤◌, Bool, false, sym, refl, subst, arith}
 use Rattle.block.specs.Blocks.{Blocks, free_count}
 use Rattle.block.specs.declared.refusals.Refusal.{Refusal}

@@ -7,7 +7,7 @@ ghost use Rattle.root.specs.Parts.{slot};
 use crate::layers::Layer;
 
 // One of the ten trees of a sheet.
-#[derive(Clone, Copy)]
+#[derive(Clone, Copy, Debug, PartialEq, Eq)]
 pub enum Part {
     // the dots of a layer
     Dots(Layer),
@@ -36,11 +36,11 @@ impl Part {
     }
 
     // Which word of a root block leads to the tree.
-    pub(crate) fn slot(self) -> u32
+    pub fn slot(self) -> u32
         ensures { result ≡ slot self }
     {
         match self {
-            Part::Dots(layer) => layer.number as u32,
+            Part::Dots(layer) => u32::from(layer.number),
             Part::Strips => 8,
             Part::Records => 9,
         }

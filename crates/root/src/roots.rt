@@ -63,6 +63,7 @@ impl Root {
         let Some(new) = self.tree(store, part).rebuild(store, plan)? else {
             return Ok(None);
         };
+        // no `inspect_err`: nothing is told of a store that its closure alters
         match self.with(store, part, new) {
             Ok(root) => Ok(Some(root)),
             Err(e) => {
