@@ -9,22 +9,19 @@ use scattered::Scattered;
 fn take_some<S: BlockStore>(store: &mut S, most: u32) -> u32 {
     let mut sum = 0u32;
     for _ in 0..most {
-        match store.take() {
-            Ok(b) => sum = sum.wrapping_add(b),
-            Err(_) => return sum,
-        }
+        let Ok(b) = store.take() else {
+            break;
+        };
+        sum = sum.wrapping_add(b);
     }
     sum
 }
 
 fn get_some<S: BlockStore>(store: &S, count: u32) -> u32 {
-    let mut sum = 0u32;
-    for x in (Scattered { last: 1 }).take(count as usize) {
-        if let Ok(w) = store.get(x >> 18, (x >> 8) % 16) {
-            sum = sum.wrapping_add(w);
-        }
-    }
-    sum
+    (Scattered { last: 1 })
+        .take(count as usize)
+        .filter_map(|x| store.get(x >> 18, (x >> 8) % 16).ok())
+        .fold(0u32, |sum, word| sum.wrapping_add(word))
 }
 
 fn put_some<S: BlockStore>(store: &mut S, count: u32) {
