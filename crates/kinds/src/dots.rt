@@ -10,7 +10,8 @@ use ink::{Channels, Dot};
 use tree::CellKind;
 
 // The kind of dots: a dot packs into a byte a channel, red highest, alpha lowest.
-pub struct Dots {}
+#[derive(Clone, Copy, Debug, PartialEq, Eq)]
+pub struct Dots;
 
 impl CellKind for Dots {
     type Cell = Dot;

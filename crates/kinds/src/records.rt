@@ -7,7 +7,8 @@ ghost use Rattle.kinds.specs.Packings.{one_low, record_back};
 use tree::CellKind;
 
 // The kind of layer records. A record is the opacity of a layer, or none where there is no such layer; one packs into 256 and its opacity.
-pub struct LayerRecords {}
+#[derive(Clone, Copy, Debug, PartialEq, Eq)]
+pub struct LayerRecords;
 
 impl CellKind for LayerRecords {
     type Cell = Option<u8>;

@@ -11,7 +11,8 @@ pub struct Strip {
 }
 
 // The kind of strips: a strip packs into its bits.
-pub struct Strips {}
+#[derive(Clone, Copy, Debug, PartialEq, Eq)]
+pub struct Strips;
 
 impl CellKind for Strips {
     type Cell = Strip;
