@@ -10,7 +10,7 @@ use tree::{CellKind, OneCell};
 const PAINTED: Part = Part::Dots(Layer { number: 0 });
 
 // What is read of a snapshot: alpha of its dots 149 and 165, and the opacity of its layer 3, where it has one.
-#[derive(Clone, Copy)]
+#[derive(Clone, Copy, Debug, PartialEq, Eq)]
 pub struct Seen {
     first: u8,
     second: u8,
