@@ -18,18 +18,15 @@ fn held_once<S: BlockStore>(store: &S, b: u32) -> bool
 pub fn let_go<S: BlockStore>(store: &mut S, order: u8, word: u32)
     ensures { S.BlockStore.blocks store.new ≡ let_go order (S.BlockStore.blocks store.old) word }
 {
-    if order == 0 {
-        return;
-    }
-    let Some(b) = word.checked_sub(1) else {
+    let (Some(below), Some(b)) = (order.checked_sub(1), word.checked_sub(1)) else {
         return;
     };
-    if order > 1 && held_once(store, b) {
+    if below > 0 && held_once(store, b) {
         // the words are gone with the block
         let children = words_of(store, word);
         let _ = store.release(b);
         for child in children {
-            let_go(store, order - 1, child);
+            let_go(store, below, child);
         }
     } else {
         let _ = store.release(b);

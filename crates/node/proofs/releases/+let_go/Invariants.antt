@@ -1,4 +1,4 @@
-use Rattle.std.proofs.Common.{◌≡◌, ◌-◌, drop, fold}
+use Rattle.std.proofs.Common.{◌≡◌, drop, fold}
 use Rattle.forest.specs.Trees.{let_go}
 use Rattle.node.proofs.releases.+let_go.Given as goal
 
@@ -7,4 +7,4 @@ decreases-let_go g l = l.order
 
 -- what is still to be let go, from here as from where the loop began
 abbrev pub invariant-loop-child : goal.invariant-loop-child
-invariant-loop-child g l = fold (let_go (l.order - 1)) (g.S.BlockStore.blocks l.store) (drop l.child-index l.child-items) ≡ fold (let_go (l.order - 1)) (g.S.BlockStore.blocks l.initial.store) l.child-items
+invariant-loop-child g l = fold (let_go l.below) (g.S.BlockStore.blocks l.store) (drop l.child-index l.child-items) ≡ fold (let_go l.below) (g.S.BlockStore.blocks l.initial.store) l.child-items
