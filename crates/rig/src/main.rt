@@ -25,7 +25,12 @@ fn report(rt: &HostRuntime, call: Call, answers: [Answer; 3]) -> anyhow::Result<
     if answers.iter().any(|answer| *answer != answers[0]) {
         return Err(anyhow!("the stores do not answer alike"));
     }
-    if let [Ok(Reply::Picked(x)), Ok(Reply::Picked(y)), Ok(Reply::Picked(z))] = answers {
+    if let [
+        Ok(Reply::Picked(x)),
+        Ok(Reply::Picked(y)),
+        Ok(Reply::Picked(z)),
+    ] = answers
+    {
         println!(rt; "{asked:<28}{told:<48}{x:>5}{y:>7}{z:>6}")?;
     } else {
         println!(rt; "{asked:<28}{told}")?;
