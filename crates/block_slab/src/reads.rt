@@ -51,8 +51,8 @@ impl SlabView<'_> {
     {
         self.cells[..self.size()]
             .iter()
-            .filter(|held| **held == 0)
-            .count() as u32
+            .map(|held| u32::from(*held == 0))
+            .sum()
     }
 
     // The number that stands in the first word of block b: 0 where there is no such block.

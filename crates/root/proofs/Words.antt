@@ -3,10 +3,11 @@ use Rattle.std.proofs.Common.{◌≡◌, ℕ, zero, suc, ◌+◌, ◌-◌, ◌<�
 use Rattle.std.proofs.Math.Path.{fun_ext}
 use Rattle.std.proofs.Math.Decide.{ℕ_discrete, dec_lt}
 use Rattle.std.specs.Fn.{Mut, Called}
-use Rattle.std.specs.Array.{IsMapOf}
+use Rattle.std.specs.Array.{IsFromFnResult}
 use Rattle.std.specs.List.{range_with_len}
 use Rattle.std.proofs.lemmas.List.FromFn.{get_or-map-range_with_len, length-map-range_with_len, get_or-range_with_len}
 use Rattle.std.proofs.lemmas.List.{get_or-map, get_or_past, length-map}
+use Rattle.std.proofs.lemmas.Simd.{map-map}
 use Rattle.block.specs.Blocks.{Blocks, Whole}
 use Rattle.block.specs.Calls.{released}
 use Rattle.block.specs.declared.refusals.Refusal.{Refusal}
@@ -16,7 +17,7 @@ use Rattle.forest.proofs.Releases.{released_flat}
 use Rattle.node.specs.declared.children.Child.{Child}
 use Rattle.node.specs.declared.children.Child.TheVariants.{Kept, Fresh}
 use Rattle.node.specs.Children.{word_at, fresh_at}
-use Rattle.node.proofs.Arrays.{mapped_by}
+use Rattle.node.proofs.Arrays.{made_by}
 use Rattle.node.proofs.Slots.{word_here, word_else, fresh_here, fresh_else}
 use Rattle.count.specs.Steps.{put, gone}
 use Rattle.count.proofs.Keeps.{put_here, put_else}
@@ -43,9 +44,10 @@ kept_words [] j = refl
 kept_words (w ∷ ws) zero = refl
 kept_words (w ∷ ws) (suc j) = kept_words ws j
 
--- the children of a block are its words, all kept, where the closure makes that of each
-pub kept_all : {F : Type 0} (g : Mut F (ℕ × Unit {0}) Child) (f : F) (m : Blocks) (p : ℕ) (ws : List ℕ) (cs : List Child) → ((x : ℕ) (y : Child) (q : F) → Called g f (x, tt) y q → (q ≡ f) × (y ≡ Kept x)) → ws ≡ words m p → IsMapOf g f ws cs 16 → cs ≡ map Kept (words m p)
-kept_all g f m p ws cs call e r = mapped_by g f Kept ws cs 0 (Kept 0) call 16 (ap length e ∙ length_words m p) r ∙ ap (map Kept) e
+-- children made one by one are the words of a block, all kept, where the closure makes of each number the word there
+pub kept_made : {F : Type 0} (g : Mut F (ℕ × Unit {0}) Child) (f : F) (m : Blocks) (p : ℕ) (cs : List Child) → ((i : ℕ) (y : Child) (q : F) → i < 16 → Called g f (i, tt) y q → (q ≡ f) × (y ≡ Kept (child m p i))) → IsFromFnResult g f cs 16 → cs ≡ map Kept (words m p)
+unfolding words
+kept_made g f m p cs call r = made_by g f (λ i. Kept (child m p i)) cs (Kept 0) 16 call r ∙ sym (map-map Kept (child m p) (range_with_len 0 16))
 
 none_fresh : (ws : List ℕ) (j : ℕ) → fresh_at (map Kept ws) j ≡ false
 none_fresh [] j = refl

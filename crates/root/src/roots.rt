@@ -12,6 +12,7 @@ ghost use Rattle.root.specs.Edits.{Made, Same, Short};
 use crate::parts::Part;
 use block::{BlockStore, Refusal};
 use node::Child;
+use std::array;
 use tree::{Plan, Tree};
 
 // A snapshot, by the word that leads to its root block: 1 plus the block's number, or 0 for none.
@@ -44,7 +45,9 @@ impl Root {
     fn with<S: BlockStore>(self, store: &mut S, part: Part, new: Tree) -> Result<Root, Refusal>
         ensures { MatchResult result (λ root. (0 < root.word) × Filled (S.BlockStore.blocks store.old) (S.BlockStore.blocks store.new) 1 (root.word - 1) (put (slot part) new.top (child (S.BlockStore.blocks store.old) self.word)) (put (slot part) true (λ _. false))) (λ e. (S.BlockStore.blocks store.new ≡ S.BlockStore.blocks store.old) × Blocked e 1 (put (slot part) new.top (child (S.BlockStore.blocks store.old) self.word)) (S.BlockStore.blocks store.old)) }
     {
-        let mut children = node::words_of(store, self.word).map(Child::Kept);
+        let mut children = array::from_fn(|i| Child::Kept(node::child_of(
+            store, self.word, i as u32,
+        )));
         children[part.slot() as usize] = Child::Fresh(new.top);
         let word = node::fill(store, 1, &children)?;
         Ok(Root { word })

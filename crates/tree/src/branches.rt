@@ -1,5 +1,5 @@
 // Branches: a tree and the parts into which it falls.
-ghost use Rattle.std.specs.Prelude.{◌≡◌, ℕ, ◌<◌, ◌≢◌, MatchOption, slice_index_or};
+ghost use Rattle.std.specs.Prelude.{◌≡◌, ℕ, ◌<◌, ◌≤◌, ◌≢◌, MatchOption, slice_index_or};
 ghost use Rattle.tree.specs.declared.branches.Branch.{Branch};
 ghost use Rattle.tree.specs.Branches.{IsPart};
 
@@ -28,6 +28,16 @@ impl Branch {
             },
             word: node::child_of(store, self.word, i),
         }
+    }
+
+    // Part i of the sixteen, or none where the branch is a cell or has no such part.
+    pub fn part_at<S: BlockStore>(self, store: &S, i: u32) -> Option<Branch>
+        ensures { MatchOption result (self.stretch.order ≢ 0 → 16 ≤ i) (λ part. (self.stretch.order ≢ 0) × (i < 16) × IsPart (S.BlockStore.blocks store.now) self i part) }
+    {
+        if self.stretch.order == 0 || i > 15 {
+            return None;
+        }
+        Some(self.part(store, i))
     }
 
     // The sixteen branches of which this one consists, or none where it is a cell.
