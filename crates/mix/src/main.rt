@@ -22,11 +22,19 @@ A request that the rules refuse is answered 'refused NUMBER: REASON'.
 
 // The arguments after the program's name, as one line; none where there are none.
 fn request_of_arguments(rt: &HostRuntime) -> io::Result<Option<String>> {
-    let words: Vec<String> = env::args(rt)?.skip(1).collect(rt.alloc())?;
-    if words.is_empty() {
-        return Ok(None);
+    let mut request: Option<String> = None;
+    for word in env::args(rt)?.skip(1) {
+        let mut line = match request {
+            Some(mut begun) => {
+                begun.push(' ')?;
+                begun
+            }
+            None => String::new(rt.alloc()),
+        };
+        line.push_str(word.as_str())?;
+        request = Some(line);
     }
-    Ok(Some(words.join(rt.alloc(), " ")?))
+    Ok(request)
 }
 
 // Prints what a request comes to, on a line of its own.

@@ -19,8 +19,9 @@ spelling At = codes "at"
 abbrev pub Spells : List ℕ → Result Name UnknownName → Type 0
 Spells text result = MatchResult result (λ name. spelling name ≡ text) (λ _. (name : Name) → spelling name ≢ text)
 
--- the name that a text spells, or else the number from 0 to 255 that it writes, or neither
+-- the name that a text spells, or else the number from 0 to 255 that it writes, or neither; no text says the end
 abbrev pub Says : List ℕ → Word → Type 0
 Says text (words.Name name) = spelling name ≡ text
 Says text (words.Number number) = ((name : Name) → spelling name ≢ text) × IsNumeral 10 (without_leading_plus text) × (number ≡ digits_value 10 (without_leading_plus text))
 Says text words.Other = ((name : Name) → spelling name ≢ text) × (IsNumeral 10 (without_leading_plus text) → 256 ≤ digits_value 10 (without_leading_plus text))
+Says text words.End = ⊥

@@ -24,12 +24,12 @@ pub enum Wanted {
 
 impl fmt::Display for Wanted {
     fn fmt<W: fmt::Write>(&self, f: &mut fmt::Formatter<W>) -> fmt::Result {
-        f.write_str(match self {
-            Wanted::Name(name) => name.text(),
-            Wanted::Number => "a number from 0 to 255",
-            Wanted::End => "the end",
-            Wanted::Way => "over, erase or fade",
-        })
+        match self {
+            Wanted::Name(name) => write!(f, "{name}"),
+            Wanted::Number => write!(f, "a number from 0 to 255"),
+            Wanted::End => write!(f, "the end"),
+            Wanted::Way => write!(f, "over, erase or fade"),
+        }
     }
 }
 

@@ -27,6 +27,8 @@ pub enum Word {
     Name(Name),
     Number(u8),
     Other,
+    // no word; no text says it, and `read` wants it nowhere
+    End,
 }
 
 impl Name {

@@ -4,7 +4,7 @@ use std::fmt;
 // A block: that of an earlier take, counted from 0, or a bare number.
 #[derive(Clone, Copy, Debug, PartialEq, Eq)]
 pub enum Block {
-    Taken(u8),
+    Taken(usize),
     Numbered(u32),
 }
 
@@ -30,7 +30,10 @@ pub enum Call {
 impl fmt::Display for Block {
     fn fmt<W: fmt::Write>(&self, f: &mut fmt::Formatter<W>) -> fmt::Result {
         match self {
-            Block::Taken(nth) => f.write_char(char::from(b'a'.saturating_add(*nth))),
+            Block::Taken(nth) => {
+                let nth = u8::try_from(*nth).unwrap_or(u8::MAX);
+                f.write_char(char::from(b'a'.saturating_add(nth)))
+            }
             Block::Numbered(number) => write!(f, "number {number}"),
         }
     }

@@ -48,7 +48,7 @@ fn ask<S: BlockStore>(store: &mut S, picks: &[u32], call: Call) -> Answer {
 // The number of a block; a take that never came names none of any store.
 fn number(picks: &[u32], b: Block) -> u32 {
     match b {
-        Block::Taken(nth) => picks.get(usize::from(nth)).copied().unwrap_or(u32::MAX),
+        Block::Taken(nth) => picks.get(nth).copied().unwrap_or(u32::MAX),
         Block::Numbered(b) => b,
     }
 }

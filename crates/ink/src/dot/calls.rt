@@ -52,11 +52,13 @@ impl From<Dot> for Channels {
 // Its four numbers, as they are written in a request.
 impl fmt::Display for Dot {
     fn fmt<W: fmt::Write>(&self, f: &mut fmt::Formatter<W>) -> fmt::Result {
-        write!(
-            f,
-            "{} {} {} {}",
-            self.red, self.green, self.blue, self.alpha
-        )
+        let Channels {
+            red,
+            green,
+            blue,
+            alpha,
+        } = Channels::from(*self);
+        write!(f, "{red} {green} {blue} {alpha}")
     }
 }
 
