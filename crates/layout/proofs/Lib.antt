@@ -1,4 +1,5 @@
 pub mod Layouts
+pub mod Fitting
 pub mod Places
 pub mod Makings
 pub mod Wholes

@@ -49,7 +49,7 @@ word_full ms w k e f =
 -- ---- how many bits are 1
 
 -- the ones of a word more
-ones_more : (ms : List ℕ) (w : ℕ) → get_or ms w 0 < 2 ^ 32 → sum_to (32 * w + 32) (mark ms) ≡ sum_to (32 * w) (mark ms) + ones (get_or ms w 0)
+pub ones_more : (ms : List ℕ) (w : ℕ) → get_or ms w 0 < 2 ^ 32 → sum_to (32 * w + 32) (mark ms) ≡ sum_to (32 * w) (mark ms) + ones (get_or ms w 0)
 ones_more ms w l =
     sum_join (32 * w) 32 (mark ms)
     ∙ ap (λ (x : ℕ). sum_to (32 * w) (mark ms) + x)
