@@ -8,7 +8,7 @@ use crate::visitors::Visitor;
 use block::BlockStore;
 use tree::{Branch, Stretch, Tree};
 
-// It takes the branch as its stretch and its word, which pass in registers, and goes part by part: by whole branches and the array of `parts`, a walk took twice to four times the time.
+// It takes the branch as its stretch and its word, which pass in registers, and goes part by part: by whole branches and the array of `parts`, a walk took two to six times the time.
 fn walk_branch<S: BlockStore, R: Region, V: Visitor>(
     store: &S,
     region: &R,
